@@ -1,0 +1,3 @@
+pub mod IntSums
+pub mod ListReads
+pub mod Widths

@@ -1,0 +1,30 @@
+//! Pure integer models: names, rows, boxes, points, and what it means that a point is feasible.
+//!
+//! A model asks for whole numbers, one per column, within a box and meeting rows of the form
+//! `sum of coefficient times value >= least`, at the least cost.
+#![tactic(auto)]
+
+mod bounds;
+mod feasible;
+mod limits;
+mod list;
+mod memory;
+mod model;
+mod name;
+mod point;
+mod row;
+#[cfg(test)]
+mod tests;
+mod text;
+mod width;
+
+pub use bounds::Bounds;
+pub use feasible::{is_feasible, value};
+pub use limits::{MAX_BOUND, MAX_COLUMNS, MAX_DECIMALS, MAX_NAME, MAX_ROWS, MAX_TERMS, MAX_WIDTH};
+pub use list::List;
+pub use memory::OutOfMemory;
+pub use model::{Model, ModelParts};
+pub use name::Name;
+pub use point::Point;
+pub use row::{Row, Term};
+pub use text::Text;

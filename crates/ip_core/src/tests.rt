@@ -1,0 +1,153 @@
+ghost use Rattle.std.specs.Prelude.{◌≡◌, IfOk};
+
+use crate::*;
+use std::alloc::Global;
+use std::test::Fail;
+
+fn text(alloc: Global, bytes: &[u8]) -> Result<Text, OutOfMemory> {
+    let mut text = Text::new(alloc);
+    text.extend(bytes)?;
+    Ok(text)
+}
+
+fn numbers(alloc: Global, values: &[i64]) -> Result<List<i64>, OutOfMemory>
+    ensures { IfOk result (λ l. l ≡ values.now) }
+{
+    Ok(List::of(Vec::from_slice(alloc, values)?))
+}
+
+fn row(alloc: Global, least: i64, terms: &[(u32, i64)]) -> Result<Row, OutOfMemory> {
+    let mut list = List::new(alloc);
+    for &(col, coef) in terms {
+        list.push(Term { col, coef })?;
+    }
+    Ok(Row { terms: list, least })
+}
+
+/// The model of columns `x`, `y` and so on with these costs, each from 0 to `high`.
+fn model(alloc: Global, costs: &[i64], high: i64, rows: List<Row>) -> Result<Option<Model>, Fail> {
+    let mut cols = List::new(alloc);
+    let mut lows = Vec::new(alloc);
+    let mut highs = Vec::new(alloc);
+    for letter in b"xyz".iter().take(costs.len()) {
+        let mut name = Text::new(alloc);
+        name.push(*letter)?;
+        cols.push(Name::of(name).ok_or("a name")?)?;
+        lows.push(0)?;
+        highs.push(high)?;
+    }
+    let Some(root) = bounds(List::of(lows), List::of(highs)) else {
+        return Ok(None);
+    };
+    Ok(Model::of(ModelParts {
+        name: Name::of(text(alloc, b"T1")?).ok_or("a name")?,
+        cols,
+        costs: numbers(alloc, costs)?,
+        constant: 0,
+        decimals: 0,
+        maximise: false,
+        root,
+        rows,
+    }))
+}
+
+fn bounds(lows: List<i64>, highs: List<i64>) -> Option<Bounds> {
+    if lows.len() < 100 {
+        Bounds::of(lows, highs)
+    } else {
+        None
+    }
+}
+
+/// Three columns from 0 to 3, to be kept within 5, 11 and 8.
+#[test]
+fn judges_points(rt: HostRuntime) -> Result<(), Fail> {
+    let alloc = rt.alloc();
+    let mut rows = List::new(alloc);
+    rows.push(row(alloc, -5, &[(0, -2), (1, -3), (2, -1)])?)?;
+    rows.push(row(alloc, -11, &[(0, -4), (1, -1), (2, -2)])?)?;
+    rows.push(row(alloc, -8, &[(0, -3), (1, -4), (2, -2)])?)?;
+    let model = model(alloc, &[-5, -4, -3], 3, rows)?.ok_or("a model")?;
+    assert_eq!(rt; model.costs(), [-5, -4, -3].as_slice());
+    assert_eq!(rt; model.rows().len(), 3);
+    assert_eq!(rt; model.name().text().as_slice(), b"T1".as_slice());
+    assert_eq!(rt;
+        (model.constant(), model.decimals(), model.maximise()),
+        (0, 0, false)
+    );
+    let cases: [(&[i64], Option<i64>); 6] = [
+        (&[2, 0, 1], Some(-13)),
+        (&[0, 0, 0], Some(0)),
+        (&[2, 1, 0], None),
+        (&[0, 0, 4], None),
+        (&[-1, 0, 0], None),
+        (&[2, 0], None),
+    ];
+    for (values, wanted) in cases {
+        let point = Point::of(numbers(alloc, values)?).copy(alloc)?;
+        let found = if is_feasible(&model, &point) {
+            Some(value(&model, &point))
+        } else {
+            None
+        };
+        assert_eq!(rt; found, wanted, "at {values:?}");
+    }
+    Ok(())
+}
+
+/// One column from 0 to 33,554,432 in a row with that coefficient: a width of 2^50, and one more.
+#[test]
+fn keeps_limits(rt: HostRuntime) -> Result<(), Fail> {
+    let alloc = rt.alloc();
+    let cases: [(i64, &[(u32, i64)], bool); 6] = [
+        (0, &[(0, 33_554_432)], true),
+        (1, &[(0, 33_554_432)], false),
+        (0, &[(1, 1)], false),
+        (0, &[(0, 0)], false),
+        (0, &[(0, 1), (0, 1)], false),
+        (0, &[], true),
+    ];
+    for (least, terms, wanted) in cases {
+        let mut rows = List::new(alloc);
+        rows.push(row(alloc, least, terms)?)?;
+        let made = model(alloc, &[1], 33_554_432, rows)?;
+        assert_eq!(rt; made.is_some(), wanted, "at {least} and {terms:?}");
+    }
+    Ok(())
+}
+
+#[test]
+fn keeps_items(rt: HostRuntime) -> Result<(), Fail> {
+    let alloc = rt.alloc();
+    let mut list = numbers(alloc, &[5, 6])?;
+    list.push(7)?;
+    list.set(0, 4);
+    list.as_mut_slice()[1] = 9;
+    assert_eq!(rt; (list.len(), list.is_empty()), (3, false));
+    assert_eq!(rt; list.into_vec().as_slice(), [4, 9, 7].as_slice());
+    let words = text(alloc, b"a b")?.copy(alloc)?;
+    assert_eq!(rt; (words.len(), words.is_empty()), (3, false));
+    assert!(rt; Name::of(words).is_none());
+    assert_eq!(rt;
+        Text::of(text(alloc, b"ab")?.into_vec()).as_slice(),
+        b"ab".as_slice()
+    );
+    Ok(())
+}
+
+#[test]
+fn cuts_boxes(rt: HostRuntime) -> Result<(), Fail> {
+    let alloc = rt.alloc();
+    let mut root = Bounds::of(numbers(alloc, &[0, 0])?, numbers(alloc, &[3, 3])?).ok_or("a box")?;
+    root.cut_low(0, 2);
+    root.cut_low(0, 1);
+    root.cut_high(1, 1);
+    root.cut_high(1, 2);
+    let kept = root.copy(alloc)?;
+    assert_eq!(rt; (kept.get(0), kept.get(1)), ((2, 3), (0, 1)));
+    assert_eq!(rt; (kept.first_empty(), kept.is_fixed()), (None, false));
+    root.cut_low(1, 2);
+    assert_eq!(rt; root.first_empty(), Some(1));
+    assert!(rt; Bounds::of(numbers(alloc, &[0])?, numbers(alloc, &[])?).is_none());
+    Ok(())
+}

@@ -1,0 +1,12 @@
+use Rattle.mps_read.specs.Lines.{Words, Zero, One, Two, Three, Four, Many}
+use Rattle.mps_read.specs.declared.line.Fields.{Fields}
+use Rattle.mps_read.specs.declared.line.Fields.TheVariants.{Empty, Single, Pair, Triple, Quadruple, More}
+
+-- the fields as values
+abbrev pub seen : Fields → Words
+seen Empty = Zero
+seen (Single a) = One a.now
+seen (Pair a b) = Two a.now b.now
+seen (Triple a b c) = Three a.now b.now c.now
+seen (Quadruple a b c d) = Four a.now b.now c.now d.now
+seen More = Many

@@ -1,0 +1,9 @@
+NAME T3
+ROWS
+ N c
+COLUMNS
+ M 'MARKER' 'INTORG'
+ x c 1
+BOUNDS
+ UP b x 1
+ENDATA

@@ -1,0 +1,42 @@
+//! The program `xsearch`: branch-and-bound over bounded pure integer models.
+#![tactic(auto)]
+
+mod answer;
+mod corner;
+mod failure;
+mod report;
+mod run;
+mod solve;
+mod status;
+mod words;
+
+pub use run::run;
+use std::process::ExitCode;
+use std::rt::Env;
+use std::{env, io};
+use xsearch_words::{FileShelf, StdoutSink};
+
+/// Runs the command line's words, after the program's name, over the system's files and the standard output.
+fn main(rt: HostRuntime) -> ExitCode {
+    let alloc = rt.alloc();
+    let words = match command_words(&rt) {
+        Ok(words) => words,
+        Err(error) if error.kind() == io::ErrorKind::OutOfMemory => return ExitCode::from(8),
+        Err(_) => Vec::new(alloc),
+    };
+    let mut shelf = FileShelf::new(rt);
+    let mut out = StdoutSink::new(rt);
+    ExitCode::from(run(alloc, words.as_slice(), &mut shelf, &mut out))
+}
+
+/// The words after the program's name. A word that isn't text is an error.
+fn command_words(rt: &(impl Env + AllocGlobal)) -> io::Result<Vec<String>> {
+    let mut words = Vec::new(rt.alloc());
+    for word in env::args(rt)?.skip(1) {
+        words.push(word)?;
+    }
+    Ok(words)
+}
+
+#[cfg(test)]
+mod tests;

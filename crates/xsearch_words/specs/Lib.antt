@@ -1,0 +1,11 @@
+pub mod Calls
+pub mod Faults
+pub mod Files
+pub mod FileShelf
+pub mod MemoryShelf
+pub mod MemorySink
+pub mod Shelf
+pub mod Sink
+pub mod StdoutSink
+pub mod SureShelf
+pub mod SureSink

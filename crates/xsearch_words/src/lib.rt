@@ -1,0 +1,32 @@
+//! The outside of the program: shelves of files that are read by name, and sinks that take text.
+//!
+//! A shelf or a sink in memory tells contracts what it holds. The shelf of real files and the sink
+//! over the standard output tell nothing of that, and are trusted.
+#![tactic(auto)]
+
+mod calls;
+mod error;
+mod fault;
+mod file_shelf;
+mod files;
+mod memory_shelf;
+mod memory_sink;
+mod shelf;
+mod sink;
+mod stdout_sink;
+mod sure_shelf;
+mod sure_sink;
+
+pub use error::{ShelfError, WriteError};
+pub use fault::LastFault;
+pub use file_shelf::FileShelf;
+pub use memory_shelf::MemoryShelf;
+pub use memory_sink::MemorySink;
+pub use shelf::Shelf;
+pub use sink::Sink;
+pub use stdout_sink::StdoutSink;
+pub use sure_shelf::SureShelf;
+pub use sure_sink::SureSink;
+
+#[cfg(test)]
+mod tests;

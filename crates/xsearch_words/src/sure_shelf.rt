@@ -1,0 +1,59 @@
+ghost use Rattle.std.specs.Prelude.{◌≡◌, ◌<◌, ◌≤◌, None, Some, length, IfOk, OnOk, OnErr, IsErrOf};
+ghost use Rattle.std.specs.Option.{option_copied};
+ghost use Rattle.xsearch_words.specs.Files.{SetsFile, contents, no_files};
+
+use crate::files::{FileMap, copy_file};
+use crate::{Shelf, ShelfError};
+use ip_core::{List, OutOfMemory, Text};
+use std::alloc::Global;
+
+/// A shelf in memory without faults. A name without a file is read as an empty file.
+#[derive(Drop)]
+pub struct SureShelf {
+    files: FileMap,
+}
+
+impl SureShelf {
+    ghost use Rattle.xsearch_words.specs.SureShelf.{files_of};
+
+    /// A shelf without files.
+    pub fn new(alloc: Global) -> SureShelf
+        ensures { files_of result ≡ no_files }
+    {
+        SureShelf {
+            files: FileMap::new(alloc),
+        }
+    }
+
+    /// Makes the file of a name hold these bytes. After a refusal the files are as before.
+    pub fn set(&mut self, name: Text, bytes: List<u8>) -> Result<(), OutOfMemory>
+        ensures ok { OnOk result (SetsFile (files_of self.old) (files_of self.new) name bytes) }
+        ensures err { OnErr result (files_of self.new ≡ files_of self.old) }
+    {
+        self.files.set(name, bytes)
+    }
+
+    /// The bytes of the file of a name, or None where the name has no file.
+    pub fn file(&self, name: &Text) -> Option<&[u8]>
+        ensures { option_copied result ≡ files_of self.now name.now }
+    {
+        self.files.file(name)
+    }
+}
+
+impl Shelf for SureShelf {
+    ghost use Rattle.xsearch_words.specs.SureShelf.{files_of};
+
+    ghost told = { λ shelf. Some (files_of shelf) };
+
+    ghost faults = { λ _. 0 };
+
+    ghost last_fault = { λ _. None };
+
+    fn read(&mut self, alloc: Global, name: &Text, most: u64) -> Result<List<u8>, ShelfError> {
+        match self.files.file(name) {
+            Some(bytes) => copy_file(alloc, bytes, most),
+            None => Ok(List::new(alloc)),
+        }
+    }
+}

@@ -1,0 +1,132 @@
+use super::*;
+use ip_core::{List, OutOfMemory, Text};
+use std::alloc::Global;
+use std::test::Fail;
+
+fn text(alloc: Global, bytes: &[u8]) -> Result<Text, OutOfMemory> {
+    Ok(Text::of(Vec::from_slice(alloc, bytes)?))
+}
+
+// A shelf whose file m holds abc, and whose third call is to fail.
+fn memory_shelf(alloc: Global) -> Result<MemoryShelf, OutOfMemory> {
+    let fails = List::of(Vec::from_slice(alloc, &[3])?);
+    let mut shelf = MemoryShelf::new(alloc, fails, 0);
+    let bytes = List::of(Vec::from_slice(alloc, b"abc")?);
+    shelf.set(text(alloc, b"m")?, bytes)?;
+    Ok(shelf)
+}
+
+fn sure_shelf(alloc: Global) -> Result<SureShelf, OutOfMemory> {
+    let mut shelf = SureShelf::new(alloc);
+    let bytes = List::of(Vec::from_slice(alloc, b"abc")?);
+    shelf.set(text(alloc, b"m")?, bytes)?;
+    Ok(shelf)
+}
+
+fn memory_sink(alloc: Global) -> Result<MemorySink, OutOfMemory> {
+    let fails = List::of(Vec::from_slice(alloc, &[2, 4])?);
+    Ok(MemorySink::new(alloc, fails, 2))
+}
+
+// Whether a read through the trait gives these bytes or this error.
+fn reads<S: Shelf>(
+    shelf: &mut S,
+    alloc: Global,
+    name: &[u8],
+    most: u64,
+    want: Result<&[u8], ShelfError>,
+) -> Result<bool, OutOfMemory> {
+    let name = text(alloc, name)?;
+    Ok(match (shelf.read(alloc, &name, most), want) {
+        (Ok(bytes), Ok(want)) => bytes.as_slice() == want,
+        (Err(error), Err(want)) => error == want,
+        _ => false,
+    })
+}
+
+fn put<O: Sink>(sink: &mut O, alloc: Global, bytes: &[u8]) -> Result<(), WriteError> {
+    sink.put(alloc, bytes)
+}
+
+fn last_is_read_of(shelf: &MemoryShelf, name: &[u8]) -> bool {
+    match shelf.last_fault() {
+        Some(fault) => !fault.write && fault.name.as_slice() == name,
+        None => false,
+    }
+}
+
+#[test]
+fn a_memory_shelf_reads_and_fails(rt: HostRuntime) -> Result<(), Fail> {
+    let alloc = rt.alloc();
+    let mut shelf = memory_shelf(alloc)?;
+    for (name, most, want, faults) in [
+        (b"m".as_slice(), 3, Ok(b"abc".as_slice()), 0),
+        (b"m".as_slice(), 2, Err(ShelfError::TooLong), 0),
+        (b"m".as_slice(), 3, Err(ShelfError::Failed), 1),
+        (b"n".as_slice(), 3, Err(ShelfError::Failed), 2),
+        (b"m".as_slice(), 9, Ok(b"abc".as_slice()), 2),
+    ] {
+        assert!(rt; reads(&mut shelf, alloc, name, most, want)?);
+        assert_eq!(rt; shelf.faults(), faults);
+    }
+    assert!(rt; last_is_read_of(&shelf, b"n"));
+    Ok(())
+}
+
+#[test]
+fn a_sure_shelf_reads_a_missing_file_as_empty(rt: HostRuntime) -> Result<(), Fail> {
+    let alloc = rt.alloc();
+    let mut shelf = sure_shelf(alloc)?;
+    for (name, most, want) in [
+        (b"m".as_slice(), 3, Ok(b"abc".as_slice())),
+        (b"m".as_slice(), 2, Err(ShelfError::TooLong)),
+        (b"n".as_slice(), 0, Ok(b"".as_slice())),
+    ] {
+        assert!(rt; reads(&mut shelf, alloc, name, most, want)?);
+    }
+    Ok(())
+}
+
+#[test]
+fn shelves_show_their_files(rt: HostRuntime) -> Result<(), Fail> {
+    let alloc = rt.alloc();
+    let name = text(alloc, b"m")?;
+    assert_eq!(rt; memory_shelf(alloc)?.file(&name), Some(b"abc".as_slice()));
+    assert_eq!(rt; sure_shelf(alloc)?.file(&name), Some(b"abc".as_slice()));
+    Ok(())
+}
+
+#[test]
+fn a_memory_sink_takes_bytes_and_fails(rt: HostRuntime) -> Result<(), Fail> {
+    let alloc = rt.alloc();
+    let mut sink = memory_sink(alloc)?;
+    for (bytes, want, out, faults) in [
+        (b"ab".as_slice(), Ok(()), b"ab".as_slice(), 0),
+        (
+            b"cde".as_slice(),
+            Err(WriteError::Failed),
+            b"abcd".as_slice(),
+            1,
+        ),
+        (b"f".as_slice(), Ok(()), b"abcdf".as_slice(), 1),
+        (
+            b"g".as_slice(),
+            Err(WriteError::Failed),
+            b"abcdfg".as_slice(),
+            2,
+        ),
+    ] {
+        assert_eq!(rt; put(&mut sink, alloc, bytes), want);
+        assert_eq!(rt; sink.bytes(), out);
+        assert_eq!(rt; sink.faults(), faults);
+    }
+    Ok(())
+}
+
+#[test]
+fn a_sure_sink_takes_bytes(rt: HostRuntime) -> Result<(), Fail> {
+    let mut sink = SureSink::new(rt.alloc());
+    put(&mut sink, rt.alloc(), b"ab")?;
+    assert_eq!(rt; sink.bytes(), b"ab".as_slice());
+    Ok(())
+}
