@@ -5,7 +5,8 @@ pub mod Digits
 pub mod Naming
 pub mod Zeros
 pub mod Drafts
-pub mod Late
+pub mod Entries
 pub mod Bridge
 pub mod Runs
+pub mod RowModels
 pub mod PlainModels

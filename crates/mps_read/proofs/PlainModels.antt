@@ -1,4 +1,4 @@
-use Rattle.std.proofs.Common.{◌≡◌, ◌∙◌, ℕ, zero, suc, ◌*◌, ◌≤◌, ◌<◌, List, [], length, map, get_or, refl, sym, arith, ℤ, pos, ◌≤ℤ◌, unsigned_abs, Option, Some, None, lit≤, false}
+use Rattle.std.proofs.Common.{◌≡◌, ◌∙◌, ℕ, zero, suc, ◌*◌, ◌≤◌, ◌<◌, List, length, map, get_or, refl, sym, arith, ℤ, pos, ◌≤ℤ◌, unsigned_abs, Option, Some, None, lit≤, false}
 use Rattle.std.specs.List.{All}
 use Rattle.std.proofs.lemmas.Int.{ints}
 use Rattle.std.proofs.lemmas.List.{get_or-map, length-map}
@@ -9,10 +9,11 @@ use Rattle.ip_core.specs.Rows.{part_width}
 use Rattle.ip_core.specs.Models.{IsModel}
 use Rattle.ip_core.specs.declared.row.Row.{Row}
 use Rattle.ip_core.specs.declared.model.ModelParts.{ModelParts}
-use Rattle.mps_read.specs.Facts.{plain_parts, high}
+use Rattle.mps_read.specs.Parts.{plain_parts, high, costs_below, rows_from}
 use Rattle.mps_read.specs.Plain.{IsPlain}
-use Rattle.mps_read.specs.Steps.{IsDraft, IsSmallBound}
+use Rattle.mps_read.specs.Drafts.{IsDraft, IsSmallBound}
 use Rattle.mps_read.specs.declared.draft.Draft.{Draft}
+use Rattle.mps_read.proofs.RowModels.{costs_long, costs_small, rows_are, rows_few, terms_few}
 
 -- a sum of numbers with a bound
 sum_small : (n : ℕ) (f : ℕ → ℕ) → ((j : ℕ) → j < n → f j ≤ 999998000001) → sum_below n f ≤ n * 999998000001
@@ -82,29 +83,37 @@ module _ (bounds : List (Option ℕ)) (small : All IsSmallBound bounds) where
   width : (costs : List ℤ) → All (λ c. unsigned_abs c ≤ 999999) costs → length costs ≡ length bounds → sum_below (length costs) (λ j. part_width box (int_at costs j) j) ≤ length costs * 999998000001
   width costs each long = sum_small (length costs) (λ j. part_width box (int_at costs j) j) (λ j h. small_product (unsigned_abs (int_at costs j)) (reach box j) (each j (pos 0) h) (reach_small j (rw long at h)))
 
+abbrev pub parts : Draft → ModelParts
+parts d = plain_parts d.name d.columns d.limits d.entries d.bounds
+
 -- a draft's parts keep the limits of a model
-pub plain_is_model : (d : Draft) → IsDraft d → IsModel (plain_parts d.name d.columns d.costs d.bounds)
+pub plain_is_model : (d : Draft) → IsDraft d → IsModel (parts d)
 plain_is_model d is =
-    let same : length d.costs ≡ length d.bounds = is.costs ∙ sym is.bounds in
-    let total = width d.bounds is.small_bounds d.costs is.small_costs same in
+    let n : ℕ = length d.columns in
+    let long : length (costs_below n d.entries) ≡ n = costs_long n d.entries in
+    let total = width d.bounds is.columns.small (costs_below n d.entries) (costs_small n n d.entries is.entries.each) (long ∙ sym is.columns.same_length) in
+    let near = λ (j : ℕ) (h : j < n). reach_small d.bounds is.columns.small j (omega (arith, h, is.columns.same_length)) in
     record {
       bounds = record {
-        columns = omega (arith, is.few);
-        costs = is.costs;
-        box = lows_long d.bounds is.small_bounds ∙ is.bounds;
-        limits = limits d.bounds is.small_bounds;
+        columns = omega (arith, is.columns.few);
+        costs = long;
+        box = lows_long d.bounds is.columns.small ∙ is.columns.same_length;
+        limits = limits d.bounds is.columns.small;
       };
-      few = record { row_limit = lit≤ tt; term_limit = lit≤ tt };
-      rows = record { each = λ k x h. absurd (omega arith) };
-      objective = omega (arith, total, is.few, is.costs);
+      few = record {
+        row_limit = omega (arith, rows_few n is.columns.few (box d.bounds is.columns.small) near d.marks d.entries is.entries 0 d.limits, is.limits.same_length, is.limits.few);
+        term_limit = omega (arith, terms_few n is.columns.few (box d.bounds is.columns.small) near d.marks d.entries is.entries 0 d.limits, is.limits.same_length, is.limits.few);
+      };
+      rows = record { each = rows_are n is.columns.few (box d.bounds is.columns.small) near d.marks d.entries is.entries 0 d.limits is.limits.small };
+      objective = omega (arith, total, is.columns.few, long);
       decimals = lit≤ tt;
     }
 
 -- and are plain
-pub plain_is_plain : (d : Draft) → IsDraft d → IsPlain (plain_parts d.name d.columns d.costs d.bounds)
-plain_is_plain d is = record { decimals = refl; maximise = refl; constant = refl; rows = refl; bounds = open_box d.bounds is.small_bounds }
+pub plain_is_plain : (d : Draft) → IsDraft d → IsPlain (parts d)
+plain_is_plain d is = record { decimals = refl; maximise = refl; constant = refl; bounds = open_box d.bounds is.columns.small }
 
 -- the parts that were put together
-pub parts_same : (d : Draft) (cols : List (List ℕ)) (root : Sides) (rows : List Row) → cols ≡ d.columns → root.lows ≡ map (λ _. pos 0) d.bounds → root.highs ≡ map high d.bounds → rows ≡ [] → (m : ModelParts) → m ≡ record { name = d.name; cols = cols; costs = d.costs; constant = pos 0; decimals = 0; maximise = false; root = root; rows = rows } → plain_parts d.name d.columns d.costs d.bounds ≡ m
-parts_same d cols root rows c l h r m is =
-    (λ k. record { name = d.name; cols = sym c k; costs = d.costs; constant = pos 0; decimals = 0; maximise = false; root = record { lows = sym l k; highs = sym h k }; rows = sym r k }) ∙ sym is
+pub parts_same : (d : Draft) (cols : List (List ℕ)) (costs : List ℤ) (root : Sides) (rows : List Row) → cols ≡ d.columns → costs ≡ costs_below (length d.columns) d.entries → root.lows ≡ map (λ _. pos 0) d.bounds → root.highs ≡ map high d.bounds → rows ≡ rows_from 0 d.limits d.entries → (m : ModelParts) → m ≡ record { name = d.name; cols = cols; costs = costs; constant = pos 0; decimals = 0; maximise = false; root = root; rows = rows } → parts d ≡ m
+parts_same d cols costs root rows c p l h r m is =
+    (λ k. record { name = d.name; cols = sym c k; costs = sym p k; constant = pos 0; decimals = 0; maximise = false; root = record { lows = sym l k; highs = sym h k }; rows = sym r k }) ∙ sym is

@@ -1,24 +1,33 @@
 use Rattle.std.specs.Prelude.{ℕ, Bool, not, ◌&&◌, nat_le, List, length, Option, Some, None, ℤ, if◌then◌else◌, codes}
 use Rattle.std.specs.List.{list_all}
 use Rattle.std.specs.Str.{bytes_eq}
-use Rattle.mps_read.specs.Lines.{Words, One, Two, Three, Four, words_of, fields, is_data, is_line_byte}
+use Rattle.mps_read.specs.Lines.{Words, One, Two, Three, Four, Five, words_of, fields, is_data, is_line_byte}
 use Rattle.mps_read.specs.Numerals.{digits, number}
 use Rattle.mps_read.specs.declared.place.Place.{Place}
-use Rattle.mps_read.specs.declared.place.Place.TheVariants.{Start, Named, Rows, Objective, Columns, Integers, Closed, Bounds}
+use Rattle.mps_read.specs.declared.place.Place.TheVariants.{Start, Named, Rows, MoreRows, Columns, Integers, Closed, Rhs, Bounds}
+use Rattle.mps_read.specs.declared.row.RowKind.{RowKind}
+use Rattle.mps_read.specs.declared.row.RowKind.TheVariants.{Free, AtMost, AtLeast}
 
--- what one line says
+-- what one line says, or one pair of it
 pub data Form : Type 0 where
   Title : (name : List ℕ) → Form
   RowsHead : Form
-  ObjectiveRow : (name : List ℕ) → Form
+  RowLine : (kind : RowKind) (name : List ℕ) → Form
   ColumnsHead : Form
   IntegersBegin : Form
   Entry : (column row : List ℕ) (value : ℤ) → Form
   IntegersEnd : Form
+  RhsHead : Form
+  RightSide : (set row : List ℕ) (value : ℤ) → Form
   BoundsHead : Form
   BoundLine : (set column : List ℕ) (high : ℕ) → Form
   End : Form
   Stray : Form
+
+-- a line of two pairs says what two lines of one pair each say
+pub data Line : Type 0 where
+  Single : (form : Form) → Line
+  Double : (first second : Form) → Line
 
 -- a name has at most eight bytes, each visible
 abbrev pub is_visible : ℕ → Bool
@@ -45,32 +54,65 @@ abbrev pub rows_form : Bool → Words → Form
 rows_form data_line (One head) = form_when (is_head data_line head (codes "ROWS")) RowsHead
 rows_form data_line _ = Stray
 
+abbrev pub is_row : Bool → List ℕ → List ℕ → List ℕ → Bool
+is_row data_line kind word name = data_line && bytes_eq kind word && is_short_name name
+
 -- the row of the objective: `N` and a name
 abbrev pub objective_form : Bool → Words → Form
-objective_form data_line (Two kind name) = form_when (data_line && bytes_eq kind (codes "N") && is_short_name name) (ObjectiveRow name)
+objective_form data_line (Two kind name) = form_when (is_row data_line kind (codes "N") name) (RowLine Free name)
 objective_form data_line _ = Stray
 
-abbrev pub columns_form : Bool → Words → Form
-columns_form data_line (One head) = form_when (is_head data_line head (codes "COLUMNS")) ColumnsHead
-columns_form data_line _ = Stray
+-- a row of at most or of at least, or the section of columns
+abbrev pub more_rows_form : Bool → Words → Form
+more_rows_form data_line (Two kind name) =
+    if is_row data_line kind (codes "L") name
+    then RowLine AtMost name
+    else form_when (is_row data_line kind (codes "G") name) (RowLine AtLeast name)
+more_rows_form data_line (One head) = form_when (is_head data_line head (codes "COLUMNS")) ColumnsHead
+more_rows_form data_line _ = Stray
 
 abbrev pub begin_form : Bool → Words → Form
 begin_form data_line (Three any field kind) = form_when (is_marker data_line field kind (codes "'INTORG'")) IntegersBegin
 begin_form data_line _ = Stray
 
+-- an entry of a column in a row
 abbrev pub entry_form : Bool → List ℕ → List ℕ → Option ℤ → Form
 entry_form data_line column row None = Stray
 entry_form data_line column row (Some value) = form_when (data_line && is_short_name column && is_short_name row) (Entry column row value)
 
+-- the section after the columns
+abbrev pub next_head : Bool → List ℕ → Form
+next_head data_line head =
+    if is_head data_line head (codes "RHS") then RhsHead else form_when (is_head data_line head (codes "BOUNDS")) BoundsHead
+
+abbrev pub closed_form : Bool → Words → Form
+closed_form data_line (One head) = next_head data_line head
+closed_form data_line _ = Stray
+
 -- a column's entry, the marker that ends the columns, or the next section
 abbrev pub integers_form : Bool → Words → Form
 integers_form data_line (Three a b c) = if is_marker data_line b c (codes "'INTEND'") then IntegersEnd else entry_form data_line a b (number c)
-integers_form data_line (One head) = form_when (is_head data_line head (codes "BOUNDS")) BoundsHead
-integers_form data_line _ = Stray
+integers_form data_line words = closed_form data_line words
 
-abbrev pub closed_form : Bool → Words → Form
-closed_form data_line (One head) = form_when (is_head data_line head (codes "BOUNDS")) BoundsHead
-closed_form data_line _ = Stray
+-- the same, or two entries of a column
+abbrev pub integers_line : Bool → Words → Line
+integers_line data_line (Five column row value second more) = Double (entry_form data_line column row (number value)) (entry_form data_line column second (number more))
+integers_line data_line words = Single (integers_form data_line words)
+
+-- a row's right-hand side
+abbrev pub side_form : Bool → List ℕ → List ℕ → Option ℤ → Form
+side_form data_line set row None = Stray
+side_form data_line set row (Some value) = form_when (data_line && is_short_name set && is_short_name row) (RightSide set row value)
+
+abbrev pub rhs_form : Bool → Words → Form
+rhs_form data_line (Three set row value) = side_form data_line set row (number value)
+rhs_form data_line (One head) = form_when (is_head data_line head (codes "BOUNDS")) BoundsHead
+rhs_form data_line _ = Stray
+
+-- one or two right-hand sides, or the next section
+abbrev pub rhs_line : Bool → Words → Line
+rhs_line data_line (Five set row value second more) = Double (side_form data_line set row (number value)) (side_form data_line set second (number more))
+rhs_line data_line words = Single (rhs_form data_line words)
 
 abbrev pub is_bound : Bool → List ℕ → List ℕ → List ℕ → List ℕ → Bool
 is_bound data_line kind word set column = data_line && bytes_eq kind word && is_short_name set && is_short_name column
@@ -87,16 +129,17 @@ bounds_form data_line (One head) = form_when (is_head data_line head (codes "END
 bounds_form data_line _ = Stray
 
 -- what may stand at a place of the file
-abbrev pub form_at : Place → Bool → Words → Form
-form_at Start = title_form
-form_at Named = rows_form
-form_at Rows = objective_form
-form_at Objective = columns_form
-form_at Columns = begin_form
-form_at Integers = integers_form
-form_at Closed = closed_form
-form_at Bounds = bounds_form
+abbrev pub line_at : Place → Bool → Words → Line
+line_at Start data_line words = Single (title_form data_line words)
+line_at Named data_line words = Single (rows_form data_line words)
+line_at Rows data_line words = Single (objective_form data_line words)
+line_at MoreRows data_line words = Single (more_rows_form data_line words)
+line_at Columns data_line words = Single (begin_form data_line words)
+line_at Integers data_line words = integers_line data_line words
+line_at Closed data_line words = Single (closed_form data_line words)
+line_at Rhs data_line words = rhs_line data_line words
+line_at Bounds data_line words = Single (bounds_form data_line words)
 
--- the form of a line at a place of the file
-abbrev pub form_of : Place → List ℕ → Form
-form_of place line = if list_all is_line_byte line then form_at place (is_data line) (words_of (fields line)) else Stray
+-- what a line says at a place of the file
+abbrev pub line_of : Place → List ℕ → Line
+line_of place line = if list_all is_line_byte line then line_at place (is_data line) (words_of (fields line)) else Single Stray

@@ -3,8 +3,10 @@ pub mod Numerals
 pub mod Forms
 pub mod Facts
 pub mod Rules
+pub mod Parts
 pub mod Readings
 pub mod Steps
+pub mod Drafts
 pub mod Seen
 pub mod Judges
 pub mod Outcomes

@@ -38,6 +38,7 @@ pub data Words : Type 0 where
   Two : (a b : List ℕ) → Words
   Three : (a b c : List ℕ) → Words
   Four : (a b c d : List ℕ) → Words
+  Five : (a b c d e : List ℕ) → Words
   Many : Words
 
 abbrev pub words_of : List (List ℕ) → Words
@@ -46,4 +47,5 @@ words_of (a ∷ []) = One a
 words_of (a ∷ b ∷ []) = Two a b
 words_of (a ∷ b ∷ c ∷ []) = Three a b c
 words_of (a ∷ b ∷ c ∷ d ∷ []) = Four a b c d
-words_of (a ∷ b ∷ c ∷ d ∷ e ∷ more) = Many
+words_of (a ∷ b ∷ c ∷ d ∷ e ∷ []) = Five a b c d e
+words_of (a ∷ b ∷ c ∷ d ∷ e ∷ f ∷ more) = Many

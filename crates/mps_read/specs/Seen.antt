@@ -1,6 +1,6 @@
-use Rattle.mps_read.specs.Lines.{Words, Zero, One, Two, Three, Four, Many}
+use Rattle.mps_read.specs.Lines.{Words, Zero, One, Two, Three, Four, Five, Many}
 use Rattle.mps_read.specs.declared.line.Fields.{Fields}
-use Rattle.mps_read.specs.declared.line.Fields.TheVariants.{Empty, Single, Pair, Triple, Quadruple, More}
+use Rattle.mps_read.specs.declared.line.Fields.TheVariants.{Empty, Single, Pair, Triple, Quadruple, Quintuple, More}
 
 -- the fields as values
 abbrev pub seen : Fields → Words
@@ -9,4 +9,5 @@ seen (Single a) = One a.now
 seen (Pair a b) = Two a.now b.now
 seen (Triple a b c) = Three a.now b.now c.now
 seen (Quadruple a b c d) = Four a.now b.now c.now d.now
+seen (Quintuple a b c d e) = Five a.now b.now c.now d.now e.now
 seen More = Many

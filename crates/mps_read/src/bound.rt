@@ -1,30 +1,18 @@
 ghost use Rattle.std.specs.Prelude.{◌≡◌, ◌≤◌, true, is_some, IfOk};
 ghost use Rattle.std.specs.List.{list_all};
-ghost use Rattle.mps_read.specs.Forms.{Form, bounds_form, is_short_name, is_bound as is_bound_of};
-ghost use Rattle.mps_read.specs.Forms.Form.{BoundLine};
-ghost use Rattle.mps_read.specs.Rules.{is_same_set as is_same_set_of};
+ghost use Rattle.mps_read.specs.Forms.{bounds_form, is_short_name, is_bound as is_bound_of, BoundLine, Single};
 ghost use Rattle.mps_read.specs.Seen.{seen};
 ghost use Rattle.mps_read.specs.Judges.{Judges};
-ghost use Rattle.mps_read.specs.Steps.{IsDraft};
+ghost use Rattle.mps_read.specs.Drafts.{IsDraft};
 
 use crate::draft::{Draft, Judgement};
 use crate::line::Fields;
 use crate::numeral::read_digits;
 use crate::place::Place;
-use crate::section::{is_head, is_word};
+use crate::section::{is_head, is_same_set, is_word};
 use crate::short_name::{is_short, short_name};
-use ip_core::{Name, OutOfMemory};
+use ip_core::OutOfMemory;
 use std::alloc::Global;
-
-/// Whether a bound line's set is the first one's, if there is one.
-fn is_same_set(first: &Option<Name>, set: &[u8]) -> bool
-    ensures { result ≡ is_same_set_of first.now set.now }
-{
-    match first {
-        None => true,
-        Some(name) => is_word(set, name.text().as_slice()),
-    }
-}
 
 /// Whether each column has a bound.
 fn all_bound(bounds: &[Option<u32>]) -> bool
@@ -51,10 +39,10 @@ fn take_bound(
     requires draft { IsDraft draft.old }
     requires named { is_short_name set.now ≡ true }
     requires small { high ≤ 999999 }
-    ensures judged { IfOk result (λ j. Judges j draft.old (BoundLine set.now column.now high) draft.new) }
+    ensures judged { IfOk result (λ j. Judges j draft.old (Single (BoundLine set.now column.now high)) draft.new) }
     ensures kept { IfOk result (λ j. IsDraft draft.new) }
 {
-    if !is_same_set(&draft.set, set) {
+    if !is_same_set(&draft.bound_set, set) {
         return Ok(Judgement::Refused);
     }
     let Some(place) = draft.columns.find(column) else {
@@ -63,8 +51,8 @@ fn take_bound(
     if draft.bounds.as_slice()[place].is_some() {
         return Ok(Judgement::Refused);
     }
-    if draft.set.is_none() {
-        draft.set = short_name(alloc, set)?;
+    if draft.bound_set.is_none() {
+        draft.bound_set = short_name(alloc, set)?;
     }
     draft.bounds.set(place, Some(high));
     draft.place = Place::Bounds;
@@ -79,7 +67,7 @@ pub fn take_bounds(
     fields: Fields<'_>,
 ) -> Result<Judgement, OutOfMemory>
     requires { IsDraft draft.old }
-    ensures judged { IfOk result (λ j. Judges j draft.old (bounds_form data_line (seen fields.entry)) draft.new) }
+    ensures judged { IfOk result (λ j. Judges j draft.old (Single (bounds_form data_line (seen fields.entry))) draft.new) }
     ensures kept { IfOk result (λ j. IsDraft draft.new) }
 {
     match fields {

@@ -1,4 +1,16 @@
-//! Reads plain MPS files: one objective row, integer columns from 0 to a bound, and no other rows.
+//! Reads plain MPS files: rows of at most and of at least, and integer columns from 0 to a bound.
+//!
+//! The lines stand in this order:
+//! - `NAME` and a name; `ROWS`; ` N` and the objective's row; ` L` or ` G` and a row, at most 64 times;
+//! - `COLUMNS`; ` M 'MARKER' 'INTORG'`; lines of a column and one or two pairs of row and number; then, if it is given,
+//!   ` M 'MARKER' 'INTEND'`;
+//! - if it is given, `RHS`; lines of a set and one or two pairs of row and number;
+//! - `BOUNDS`; ` UP`, a set, a column and a number, or ` BV`, a set and a column, once for each column; `ENDATA`.
+//!
+//! A number is one to six digits, after a `-` or without one, and an upper bound has no sign. A name has at most eight
+//! bytes. Row names differ, a column's lines stand together, no entry is zero or given twice, there are at most 64
+//! columns, and the lines of a section name one set. The objective has no right-hand side, and a row without one has 0.
+//! In the model a row of at most is one of at least with all its numbers negated.
 #![tactic(auto)]
 
 mod bound;
@@ -11,8 +23,11 @@ mod names;
 mod numeral;
 mod place;
 mod reader;
+mod row;
+mod row_line;
 mod section;
 mod short_name;
+mod side;
 #[cfg(test)]
 mod tests;
 

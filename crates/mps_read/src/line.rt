@@ -4,7 +4,7 @@ ghost use Rattle.mps_read.specs.Lines.{words_of, fields, is_line_byte};
 ghost use Rattle.mps_read.specs.Lines.{is_data as is_data_line};
 ghost use Rattle.mps_read.specs.Seen.{seen};
 
-/// The fields of a line, up to four of them.
+/// The fields of a line, up to five of them.
 #[derive(Clone, Copy)]
 pub enum Fields<'a> {
     Empty,
@@ -12,6 +12,7 @@ pub enum Fields<'a> {
     Pair(&'a [u8], &'a [u8]),
     Triple(&'a [u8], &'a [u8], &'a [u8]),
     Quadruple(&'a [u8], &'a [u8], &'a [u8], &'a [u8]),
+    Quintuple(&'a [u8], &'a [u8], &'a [u8], &'a [u8], &'a [u8]),
     More,
 }
 
@@ -60,8 +61,11 @@ pub fn fields_of(line: &[u8]) -> Fields<'_>
     let Some((fourth, rest)) = next_field(rest) else {
         return Fields::Triple(first, second, third);
     };
+    let Some((fifth, rest)) = next_field(rest) else {
+        return Fields::Quadruple(first, second, third, fourth);
+    };
     match next_field(rest) {
-        None => Fields::Quadruple(first, second, third, fourth),
+        None => Fields::Quintuple(first, second, third, fourth, fifth),
         Some(_) => Fields::More,
     }
 }

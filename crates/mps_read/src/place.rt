@@ -4,9 +4,10 @@ pub enum Place {
     Start,
     Named,
     Rows,
-    Objective,
+    MoreRows,
     Columns,
     Integers,
     Closed,
+    Rhs,
     Bounds,
 }

@@ -1,11 +1,11 @@
-ghost use Rattle.std.specs.Prelude.{◌≡◌, ◌≤◌, ◌^◌, ◌==◌, pos, false, [], length, IfOk, MatchResult};
+ghost use Rattle.std.specs.Prelude.{◌≡◌, ◌≤◌, ◌^◌, pos, false, length, IfOk, MatchResult};
 ghost use Rattle.ip_core.specs.Sides.{HasNoEmpty};
-ghost use Rattle.mps_read.specs.Forms.{form_of};
-ghost use Rattle.mps_read.specs.Readings.{Reads, IsRefused};
+ghost use Rattle.mps_read.specs.Forms.{line_of};
+ghost use Rattle.mps_read.specs.Readings.{Reads};
 ghost use Rattle.mps_read.specs.Outcomes.{IsOutcome, IsCause};
 ghost use Rattle.mps_read.specs.Judges.{Judges};
 ghost use Rattle.mps_read.specs.Plain.{IsPlainOutcome};
-ghost use Rattle.mps_read.specs.Steps.{IsDraft};
+ghost use Rattle.mps_read.specs.Drafts.{IsDraft};
 
 use crate::PlainError;
 use crate::bound::take_bounds;
@@ -14,9 +14,9 @@ use crate::entry::take_integers;
 use crate::finish::finish;
 use crate::line::{cut, fields_of, is_data, is_text};
 use crate::place::Place;
-use crate::section::{
-    take_begin, take_closed, take_columns, take_objective, take_rows, take_title,
-};
+use crate::row_line::{take_more_rows, take_objective};
+use crate::section::{take_begin, take_closed, take_rows, take_title};
+use crate::side::take_rhs;
 use ip_core::{Model, OutOfMemory};
 use std::alloc::Global;
 
@@ -30,7 +30,7 @@ pub enum Outcome {
 /// Takes one more line into the draft, if it is allowed there.
 fn take_line(alloc: Global, draft: &mut Draft, line: &[u8]) -> Result<Judgement, OutOfMemory>
     requires { IsDraft draft.old }
-    ensures judged { IfOk result (λ j. Judges j draft.old (form_of draft.old.place line.now) draft.new) }
+    ensures judged { IfOk result (λ j. Judges j draft.old (line_of draft.old.place line.now) draft.new) }
     ensures kept { IfOk result (λ j. IsDraft draft.new) }
 {
     if !is_text(line) {
@@ -42,10 +42,11 @@ fn take_line(alloc: Global, draft: &mut Draft, line: &[u8]) -> Result<Judgement,
         Place::Start => take_title(alloc, draft, data_line, fields),
         Place::Named => Ok(take_rows(draft, data_line, fields)),
         Place::Rows => take_objective(alloc, draft, data_line, fields),
-        Place::Objective => Ok(take_columns(draft, data_line, fields)),
+        Place::MoreRows => take_more_rows(alloc, draft, data_line, fields),
         Place::Columns => Ok(take_begin(draft, data_line, fields)),
         Place::Integers => take_integers(alloc, draft, data_line, fields),
         Place::Closed => Ok(take_closed(draft, data_line, fields)),
+        Place::Rhs => take_rhs(alloc, draft, data_line, fields),
         Place::Bounds => take_bounds(alloc, draft, data_line, fields),
     }
 }
@@ -77,7 +78,6 @@ pub fn read_plain(alloc: Global, bytes: &[u8]) -> Result<Model, PlainError>
     requires { length bytes.now ≤ 2 ^ 30 }
     ensures answer { MatchResult result (λ m. Reads bytes.now m) (λ e. IsCause bytes.now e) }
     ensures whole { IfOk result (λ m. (m.decimals ≡ 0) × (m.maximise ≡ false) × (m.constant ≡ pos 0)) }
-    ensures rowless { IfOk result (λ m. m.rows ≡ []) }
     ensures bounded { IfOk result (λ m. HasNoEmpty m.root) }
 {
     match read_lines(alloc, bytes)? {

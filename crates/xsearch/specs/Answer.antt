@@ -1,7 +1,9 @@
-use Rattle.std.specs.Prelude.{ℕ, Bool, if◌then◌else◌, List, [], ◌∷◌, ◌++◌, ℤ, pos, ◌+ℤ◌, neg_ℤ, codes}
+use Rattle.std.specs.Prelude.{ℕ, if◌then◌else◌, List, [], ◌∷◌, ◌++◌, length, ◌≡◌, ℤ, ◌+ℤ◌, neg_ℤ, codes, Option, Some, None}
 use Rattle.std.specs.Fmt.{signed_decimal}
-use Rattle.ip_core.specs.Truth.{value_at}
 use Rattle.ip_core.specs.declared.model.ModelParts.{ModelParts}
+use Rattle.plain_search.specs.declared.answer.Status.{Status}
+use Rattle.plain_search.specs.declared.answer.Status.TheVariants.{Optimal, Infeasible, WorkLimit}
+use Rattle.plain_search.specs.declared.view.Best.{Best}
 
 -- the objective of a value: with the constant, and negated where the model maximises
 abbrev pub objective_of : ModelParts → ℤ → ℤ
@@ -17,7 +19,18 @@ column_lines [] xs = []
 column_lines (name ∷ names) [] = []
 column_lines (name ∷ names) (x ∷ xs) = column_line name x ++ column_lines names xs
 
--- the text of an optimal answer at a point, for a model without decimals
-abbrev pub optimal_text : ModelParts → List ℤ → List ℕ
-optimal_text m x =
-    codes "status optimal\nobjective " ++ signed_decimal (objective_of m (value_at m x)) ++ codes "\n" ++ column_lines m.cols x
+-- the objective and the columns of a point, for a model without decimals, or that there is none
+abbrev pub point_text : ModelParts → Option Best → List ℕ
+point_text m None = codes "objective none\n"
+point_text m (Some best) = codes "objective " ++ signed_decimal (objective_of m best.value) ++ codes "\n" ++ column_lines m.cols best.point
+
+-- the text of an answer: its status, and unless no point is feasible the point and its objective
+abbrev pub answer_text : ModelParts → Status → Option Best → List ℕ
+answer_text m Optimal best = codes "status optimal\n" ++ point_text m best
+answer_text m Infeasible best = codes "status infeasible\n"
+answer_text m WorkLimit best = codes "status worklimit\n" ++ point_text m best
+
+-- a point has a value for each column
+abbrev pub HasOneEach : ModelParts → Option Best → Type 0
+HasOneEach m None = Unit {0}
+HasOneEach m (Some best) = length best.point ≡ length m.cols

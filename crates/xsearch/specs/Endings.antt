@@ -3,15 +3,19 @@ use Rattle.std.specs.Fmt.{decimal}
 use Rattle.xsearch_words.specs.Faults.{HasRisen}
 use Rattle.xsearch_words.specs.Sink.{GrowsBy, GrowsByFront}
 use Rattle.xsearch.specs.Shelves.{SinkState}
+use Rattle.plain_search.specs.declared.answer.Status.{Status}
+use Rattle.plain_search.specs.declared.answer.Status.TheVariants.{Optimal, Infeasible, WorkLimit as SearchLimit}
+use Rattle.xsearch.specs.declared.failure.Answered.{Answered}
 use Rattle.xsearch.specs.declared.failure.Failure.{Failure}
 use Rattle.xsearch.specs.declared.failure.Failure.TheVariants.{Words, Length, Line, Unread, Memory}
 use Rattle.xsearch.specs.declared.status.ExitStatus.{ExitStatus}
-use Rattle.xsearch.specs.declared.status.ExitStatus.TheVariants.{Done, RefusedWords, RefusedInput, ShelfFailed, SinkFailed, NoMemory}
+use Rattle.xsearch.specs.declared.status.ExitStatus.TheVariants.{Done, WorkLimit, RefusedWords, RefusedInput, ShelfFailed, SinkFailed, NoMemory}
 
 -- the number of a status
 abbrev pub code_of : ExitStatus → ℕ
 code_of Done = 0
 code_of RefusedWords = 2
+code_of WorkLimit = 3
 code_of RefusedInput = 5
 code_of ShelfFailed = 6
 code_of SinkFailed = 7
@@ -32,9 +36,15 @@ pub record IsSilent (old new : SinkState) (meant status : ExitStatus) : Type 0 w
 abbrev pub line_refusal : ℕ → List ℕ
 line_refusal line = codes "refused plain line " ++ decimal line ++ codes "\n"
 
+-- an answer ends a run with status 0, and with 3 where the search met its limit
+abbrev pub exit_of : Status → ExitStatus
+exit_of Optimal = Done
+exit_of Infeasible = Done
+exit_of SearchLimit = WorkLimit
+
 -- how a run ends, by what was found
-abbrev pub EndsAs : Result (List ℕ) Failure → SinkState → SinkState → ExitStatus → Type 0
-EndsAs (Ok text) old new status = IsPut old new text Done status
+abbrev pub EndsAs : Result Answered Failure → SinkState → SinkState → ExitStatus → Type 0
+EndsAs (Ok answered) old new status = IsPut old new answered.text (exit_of answered.status) status
 EndsAs (Err Words) old new status = IsPut old new (codes "refused words\n") RefusedWords status
 EndsAs (Err Length) old new status = IsPut old new (codes "refused length\n") RefusedInput status
 EndsAs (Err (Line line)) old new status = IsPut old new (line_refusal line) RefusedInput status

@@ -1,27 +1,54 @@
 ghost use Rattle.std.specs.Prelude.{◌≡◌, ◌++◌, length, IfOk, OnOk};
-ghost use Rattle.xsearch.specs.Answer.{optimal_text, objective_of, column_line, column_lines};
-ghost use Rattle.ip_core.specs.Truth.{IsFeasible};
+ghost use Rattle.xsearch.specs.Answer.{HasOneEach, answer_text as answer_text_of, column_line, column_lines, objective_of, point_text};
 
-use ip_core::{Model, Name, OutOfMemory, Point, Text, value};
+use ip_core::{Model, Name, OutOfMemory, Text};
 use itoa::Buffer;
+use plain_search::{Best, Status};
 use std::alloc::Global;
 
-/// The text of an optimal answer: the status, the objective, and a line for each column.
-pub fn optimal_text(alloc: Global, model: &Model, point: &Point) -> Result<Text, OutOfMemory>
+/// The text of an answer: its status, and unless no point is feasible the point and its objective.
+pub fn answer_text(
+    alloc: Global,
+    model: &Model,
+    status: Status,
+    best: &Option<Best>,
+) -> Result<Text, OutOfMemory>
     requires whole { model.now.decimals ≡ 0 }
-    requires feasible { IsFeasible model.now point.now }
-    ensures { IfOk result (λ text. text ≡ optimal_text model.now point.now) }
+    requires one_each { HasOneEach model.now best.now }
+    ensures { IfOk result (λ text. text ≡ answer_text_of model.now status best.now) }
 {
     let mut text = Text::new(alloc);
-    text.extend(b"status optimal\nobjective ")?;
-    text.extend(
-        Buffer::new()
-            .format(objective(model, value(model, point)))
-            .as_bytes(),
-    )?;
-    text.push(b'\n')?;
-    append_columns(&mut text, model.cols(), point.values())?;
+    match status {
+        Status::Optimal => {
+            text.extend(b"status optimal\n")?;
+            append_point(&mut text, model, best)?;
+        }
+        Status::Infeasible => text.extend(b"status infeasible\n")?,
+        Status::WorkLimit => {
+            text.extend(b"status worklimit\n")?;
+            append_point(&mut text, model, best)?;
+        }
+    }
     Ok(text)
+}
+
+fn append_point(text: &mut Text, model: &Model, best: &Option<Best>) -> Result<(), OutOfMemory>
+    requires { HasOneEach model.now best.now }
+    ensures { OnOk result (text.new ≡ text.old ++ point_text model.now best.now) }
+{
+    match best {
+        None => text.extend(b"objective none\n"),
+        Some(best) => {
+            text.extend(b"objective ")?;
+            text.extend(
+                Buffer::new()
+                    .format(objective(model, best.value))
+                    .as_bytes(),
+            )?;
+            text.push(b'\n')?;
+            append_columns(text, model.cols(), best.point.values())
+        }
+    }
 }
 
 /// The objective of a value: with the constant, and negated where the model maximises.

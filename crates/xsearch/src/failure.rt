@@ -1,4 +1,13 @@
+use ip_core::Text;
+use plain_search::Status;
 use thiserror::Error;
+
+/// The answer to a command: how the search ended, and the text.
+#[derive(Debug, Drop)]
+pub struct Answered {
+    pub status: Status,
+    pub text: Text,
+}
 
 /// Why a command has no text of its own.
 #[derive(Clone, Copy, Debug, PartialEq, Eq, Error)]

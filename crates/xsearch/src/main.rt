@@ -2,7 +2,6 @@
 #![tactic(auto)]
 
 mod answer;
-mod corner;
 mod failure;
 mod report;
 mod run;

@@ -1,19 +1,22 @@
 ghost use Rattle.std.specs.Prelude.{◌≡◌, ◌++◌, codes, IfOk};
 ghost use Rattle.xsearch.specs.Endings.{EndsAs, IsPut, line_refusal};
 
-use crate::failure::Failure;
-use crate::status::ExitStatus;
+use crate::failure::{Answered, Failure};
+use crate::status::{ExitStatus, exit_status};
 use ip_core::{OutOfMemory, Text};
 use itoa::Buffer;
 use std::alloc::Global;
 use xsearch_words::{Sink, WriteError};
 
 /// Puts what was found: the text of the command, one refusal line, or nothing.
-pub fn report<O: Sink>(alloc: Global, found: Result<Text, Failure>, out: &mut O) -> ExitStatus
+pub fn report<O: Sink>(alloc: Global, found: Result<Answered, Failure>, out: &mut O) -> ExitStatus
     ensures { EndsAs found (record { out = O.told out.old; faults = O.faults out.old }) (record { out = O.told out.new; faults = O.faults out.new }) result }
 {
     match found {
-        Ok(text) => put(alloc, out, text.as_slice(), ExitStatus::Done),
+        Ok(answered) => {
+            let meant = exit_status(answered.status);
+            put(alloc, out, answered.text.as_slice(), meant)
+        }
         Err(Failure::Words) => put(alloc, out, b"refused words\n", ExitStatus::RefusedWords),
         Err(Failure::Length) => put(alloc, out, b"refused length\n", ExitStatus::RefusedInput),
         Err(Failure::Line(line)) => put_line_refusal(alloc, out, line),

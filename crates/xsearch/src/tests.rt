@@ -12,11 +12,14 @@ const M3_UNENDED: &[u8] =
 
 const EQUALITY_ROW: &[u8] = b"NAME T2\nROWS\n N c\n E a\nCOLUMNS\n";
 
-const TWO_ENTRIES: &[u8] =
-    b"NAME T3\nROWS\n N c\nCOLUMNS\n M 'MARKER' 'INTORG'\n x c 1 c 2\nBOUNDS\n UP b x 1\nENDATA\n";
+const M1: &[u8] =
+    b"NAME T1\nROWS\n N c\n L a\n L b\n L d\nCOLUMNS\n M 'MARKER' 'INTORG'\n x c -5 a 2\n x b 4 d 3\n y c -4 a 3\n y b 1 d 4\n z c -3 a 1\n z b 2 d 2\n M 'MARKER' 'INTEND'\nRHS\n r a 5 b 11\n r d 8\nBOUNDS\n UP k x 3\n UP k y 3\n UP k z 3\nENDATA\n";
 
-const GAINS: &[u8] =
-    b"NAME T4\nROWS\n N c\nCOLUMNS\n M 'MARKER' 'INTORG'\n x c -2\n y c 3\n z c -1\n M 'MARKER' 'INTEND'\nBOUNDS\n UP b x 7\n UP b y 9\n BV b z\nENDATA\n";
+const M4: &[u8] =
+    b"NAME T4\nROWS\n N c\n G a\nCOLUMNS\n M 'MARKER' 'INTORG'\n x c 1 a 2\n M 'MARKER' 'INTEND'\nRHS\n r a 3\nBOUNDS\n UP k x 5\nENDATA\n";
+
+const M4_LOW: &[u8] =
+    b"NAME T4\nROWS\n N c\n G a\nCOLUMNS\n M 'MARKER' 'INTORG'\n x c 1 a 2\n M 'MARKER' 'INTEND'\nRHS\n r a 3\nBOUNDS\n UP k x 1\nENDATA\n";
 
 fn text(alloc: Global, bytes: &[u8]) -> Result<Text, OutOfMemory> {
     Ok(Text::of(Vec::from_slice(alloc, bytes)?))
@@ -37,20 +40,52 @@ fn words(alloc: Global, line: &str) -> Result<Vec<String>, OutOfMemory> {
 #[test]
 fn answers_and_refusals(rt: HostRuntime) -> Result<(), Fail> {
     let alloc = rt.alloc();
-    let cases: [(&str, &[u8], u8, &[u8]); 9] = [
+    let cases: [(&str, &[u8], u8, &[u8]); 16] = [
         ("solve m", M3, 0, b"status optimal\nobjective 0\nx = 0\n"),
         (
             "solve m",
-            GAINS,
+            M1,
             0,
-            b"status optimal\nobjective -15\nx = 7\ny = 0\nz = 1\n",
+            b"status optimal\nobjective -13\nx = 2\ny = 0\nz = 1\n",
+        ),
+        (
+            "solve m --work=15",
+            M4,
+            3,
+            b"status worklimit\nobjective 3\nx = 3\n",
+        ),
+        (
+            "solve m --work=0000000000016",
+            M4,
+            0,
+            b"status optimal\nobjective 2\nx = 2\n",
+        ),
+        (
+            "solve m --work=2",
+            M3,
+            3,
+            b"status worklimit\nobjective none\n",
+        ),
+        (
+            "solve m --work=3",
+            M3,
+            0,
+            b"status optimal\nobjective 0\nx = 0\n",
+        ),
+        (
+            "solve m --work=1000000000000",
+            M4_LOW,
+            0,
+            b"status infeasible\n",
         ),
         ("solve m", M3_UNENDED, 5, b"refused plain line 9\n"),
         ("solve m", EQUALITY_ROW, 5, b"refused plain line 4\n"),
-        ("solve m", TWO_ENTRIES, 5, b"refused plain line 6\n"),
         ("", M3, 2, b"refused words\n"),
         ("solve -m", M3, 2, b"refused words\n"),
-        ("solve m --work=15", M3, 2, b"refused words\n"),
+        ("solve m --work=", M3, 2, b"refused words\n"),
+        ("solve m --work=1000000000001", M3, 2, b"refused words\n"),
+        ("solve m --work=00000000000001", M3, 2, b"refused words\n"),
+        ("--work=3 solve m", M3, 2, b"refused words\n"),
         ("check m", M3, 2, b"refused words\n"),
     ];
     for (line, model, status, printed) in cases {

@@ -1,5 +1,5 @@
 use Rattle.std.proofs.Common.{◌≡◌, take, map}
-use Rattle.mps_read.specs.Facts.{high}
+use Rattle.mps_read.specs.Parts.{high}
 use Rattle.mps_read.proofs.finish.highs_of.Given as goal
 
 abbrev pub invariant-loop-bound : goal.invariant-loop-bound

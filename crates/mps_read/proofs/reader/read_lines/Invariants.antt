@@ -1,7 +1,8 @@
 use Rattle.std.proofs.Common.{◌≡◌, ◌≤◌, ◌+◌, length}
 use Rattle.mps_read.specs.Lines.{whole_lines}
 use Rattle.mps_read.specs.Readings.{reading}
-use Rattle.mps_read.specs.Steps.{IsDraft, run}
+use Rattle.mps_read.specs.Steps.{run}
+use Rattle.mps_read.specs.Drafts.{IsDraft}
 use Rattle.mps_read.proofs.reader.read_lines.Given as goal
 
 abbrev pub invariant-loop-line : goal.invariant-loop-line

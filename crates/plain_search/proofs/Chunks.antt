@@ -1,0 +1,11 @@
+use Rattle.std.proofs.Common.{◌≡◌, ℕ, false, ◌&&◌, List, ℤ, int_lt, refl}
+use Rattle.ip_core.specs.declared.model.ModelParts.{ModelParts}
+use Rattle.search_truth.specs.Boxes.{least_value}
+use Rattle.plain_search.specs.Corners.{is_hopeless, cheapest_corner, is_feasible_at}
+use Rattle.plain_search.specs.Tasks.{chunk, on_corner}
+use Rattle.plain_search.specs.declared.task.Task.{Task}
+
+-- a chunk on a box that isn't hopeless tries the corner
+pub chunk_on_corner : (m : ModelParts) (splits : ℕ) (task : Task) (bound : ℤ) (point : List ℤ) → is_hopeless m task.bounds ≡ false → bound ≡ least_value m task.bounds → point ≡ cheapest_corner m task.bounds
+    → on_corner m task splits bound point (int_lt bound task.cutoff && is_feasible_at m point) ≡ chunk m splits task
+chunk_on_corner m splits task bound point filled same_bound same_point = rw (filled, same_bound, same_point) refl

@@ -1,0 +1,10 @@
+pub mod Chunks
+pub mod Events
+pub mod Feasible
+pub mod Fitting
+pub mod Hopeless
+pub mod Members
+pub mod Moves
+pub mod Reaches
+pub mod Soundness
+pub mod WorkedRows

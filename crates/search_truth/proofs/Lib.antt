@@ -1,0 +1,10 @@
+pub mod Products
+pub mod Values
+pub mod Children
+pub mod Reasons
+pub mod Covers
+pub mod Within
+pub mod Corners
+pub mod Narrow
+pub mod Stepping
+pub mod Examples
