@@ -30,13 +30,6 @@ int_sum_by_more f xs i d within =
 pub int_sum_below_more : (f : ℕ → ℤ) (n : ℕ) → int_sum_below (n + 1) f ≡ int_sum_below n f +ℤ f n
 int_sum_below_more f n = rw add-one refl
 
--- a part added to a running sum of 64 bits fits, and gives the next sum
-pub running_fits : (sum part next : ℤ) → FitsSigned w64 part → sum +ℤ part ≡ next → FitsSigned w64 next → FitsSigned w64 (sum +ℤ to_z w64 (of_z w64 part))
-running_fits sum part next small same fits = rw (to_z-of_z w64 part small, same) fits
-
-pub running_is : (sum part next : ℤ) → FitsSigned w64 part → sum +ℤ part ≡ next → FitsSigned w64 next → to_z w64 (of_z w64 (sum +ℤ to_z w64 (of_z w64 part))) ≡ next
-running_is sum part next small same fits = rw (to_z-of_z w64 part small, same) (to_z-of_z w64 next fits)
-
 -- what a comparison at 64 bits says where it fails
 pub not_below : (a b : ℤ) → FitsSigned w64 a → FitsSigned w64 b → int_lt (to_z w64 (of_z w64 a)) (to_z w64 (of_z w64 b)) ≡ false → b ≤ℤ a
 not_below a b first second fails =

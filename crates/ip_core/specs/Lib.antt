@@ -5,3 +5,9 @@ pub mod Sides
 pub mod Rows
 pub mod Models
 pub mod Truth
+pub mod Boxes
+pub mod Decimals
+pub mod Texts
+pub mod Prints
+pub mod RowRefs
+pub mod Quotients

@@ -1,4 +1,4 @@
-use Rattle.std.specs.Prelude.{ℕ, ◌≤◌, ◌<◌, ◌≢◌, ◌+◌, ◌*◌, List, map, ℤ, pos, ◌*ℤ◌, ◌≤ℤ◌, unsigned_abs, sum_by, All}
+use Rattle.std.specs.Prelude.{◌==◌, if◌then◌else◌, ℕ, ◌≤◌, ◌<◌, ◌≢◌, ◌+◌, ◌*◌, List, map, ℤ, pos, ◌*ℤ◌, ◌≤ℤ◌, unsigned_abs, sum_by, All}
 use Rattle.std.specs.List.Sorted.{IsStrictlyIncreasing}
 use Rattle.ip_core.specs.Numbers.{int_at, int_sum_by}
 use Rattle.ip_core.specs.Sides.{Sides, reach}
@@ -9,6 +9,14 @@ use Rattle.ip_core.specs.declared.limits.TheConstants.{MAX_WIDTH}
 -- what terms add up to at a point: the sum of coefficient times value
 abbrev pub activity : List ℤ → List Term → ℤ
 activity x terms = int_sum_by (λ t. t.coef *ℤ int_at x t.col) terms
+
+-- what a term adds to the coefficient of column j: its own coefficient where it stands at j
+abbrev pub own_coefficient : ℕ → Term → ℤ
+own_coefficient j t = if t.col == j then t.coef else pos 0
+
+-- the coefficient of column j in terms, and 0 where it doesn't stand in them
+abbrev pub coefficient : ℕ → List Term → ℤ
+coefficient j terms = int_sum_by (own_coefficient j) terms
 
 -- the point meets the row: its activity is at least the row's `least`
 pub record IsMet (x : List ℤ) (row : Row) : Type 0 where

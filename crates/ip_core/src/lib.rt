@@ -5,21 +5,29 @@
 #![tactic(auto)]
 
 mod bounds;
+pub mod decimal;
+mod derivation;
 mod feasible;
+mod leaf;
 mod limits;
 mod list;
 mod memory;
 mod model;
 mod name;
+mod numeral;
 mod point;
 mod row;
+mod row_ref;
 #[cfg(test)]
 mod tests;
 mod text;
 mod width;
 
 pub use bounds::Bounds;
+pub use decimal::{Decimal, NumeralError};
+pub use derivation::Derivation;
 pub use feasible::{is_feasible, value};
+pub use leaf::{Closing, Leaf, Pair, Record, Tighten};
 pub use limits::{MAX_BOUND, MAX_COLUMNS, MAX_DECIMALS, MAX_NAME, MAX_ROWS, MAX_TERMS, MAX_WIDTH};
 pub use list::List;
 pub use memory::OutOfMemory;
@@ -27,4 +35,5 @@ pub use model::{Model, ModelParts};
 pub use name::Name;
 pub use point::Point;
 pub use row::{Row, Term};
+pub use row_ref::RowRef;
 pub use text::Text;

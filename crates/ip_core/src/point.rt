@@ -1,4 +1,4 @@
-ghost use Rattle.std.specs.Prelude.{◌≡◌, IfOk};
+ghost use Rattle.std.specs.Prelude.{◌≡◌, ◌<◌, length, slice_set, IfOk};
 
 use crate::{List, OutOfMemory};
 use std::alloc::Global;
@@ -31,6 +31,14 @@ impl Point {
         ensures { result.now ≡ self.now }
     {
         self.values.as_slice()
+    }
+
+    /// Replaces the value of a column. It takes no memory.
+    pub fn set(&mut self, col: u32, value: i64)
+        requires { col < length self.old }
+        ensures { self.new ≡ slice_set self.old col value }
+    {
+        self.values.set(col as usize, value);
     }
 
     /// Another point of the same values.

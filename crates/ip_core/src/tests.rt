@@ -1,5 +1,6 @@
 ghost use Rattle.std.specs.Prelude.{◌≡◌, IfOk};
 
+use crate::decimal::text as text_of;
 use crate::*;
 use std::alloc::Global;
 use std::test::Fail;
@@ -40,7 +41,7 @@ fn model(alloc: Global, costs: &[i64], high: i64, rows: List<Row>) -> Result<Opt
         return Ok(None);
     };
     Ok(Model::of(ModelParts {
-        name: Name::of(text(alloc, b"T1")?).ok_or("a name")?,
+        name: Name::of(text(alloc, b"three")?).ok_or("a name")?,
         cols,
         costs: numbers(alloc, costs)?,
         constant: 0,
@@ -70,7 +71,7 @@ fn judges_points(rt: HostRuntime) -> Result<(), Fail> {
     let model = model(alloc, &[-5, -4, -3], 3, rows)?.ok_or("a model")?;
     assert_eq!(rt; model.costs(), [-5, -4, -3].as_slice());
     assert_eq!(rt; model.rows().len(), 3);
-    assert_eq!(rt; model.name().text().as_slice(), b"T1".as_slice());
+    assert_eq!(rt; model.name().text().as_slice(), b"three".as_slice());
     assert_eq!(rt;
         (model.constant(), model.decimals(), model.maximise()),
         (0, 0, false)
@@ -149,5 +150,132 @@ fn cuts_boxes(rt: HostRuntime) -> Result<(), Fail> {
     root.cut_low(1, 2);
     assert_eq!(rt; root.first_empty(), Some(1));
     assert!(rt; Bounds::of(numbers(alloc, &[0])?, numbers(alloc, &[])?).is_none());
+    Ok(())
+}
+
+/// Mantissa and exponent of a short numeral.
+fn read(bytes: &[u8]) -> Result<(i64, i16), NumeralError> {
+    if bytes.len() > 100 {
+        return Err(NumeralError::TooLong);
+    }
+    let number = Decimal::read(bytes)?;
+    Ok((number.mantissa(), number.exponent()))
+}
+
+fn written(alloc: Global, value: i128, decimals: u8) -> Result<Text, OutOfMemory> {
+    if decimals > 18 {
+        return Ok(Text::new(alloc));
+    }
+    text_of(alloc, value, decimals)
+}
+
+#[test]
+fn reads_numerals(rt: HostRuntime) -> Result<(), Fail> {
+    let cases: [(&[u8], Result<(i64, i16), NumeralError>); 26] = [
+        (b"1.50D+2", Ok((15, 1))),
+        (b".5", Ok((5, -1))),
+        (b"0.000", Ok((0, 0))),
+        (b"1e-19", Err(NumeralError::Range)),
+        (b"1.2.3", Err(NumeralError::BadByte { place: 3 })),
+        (b"+", Err(NumeralError::Empty)),
+        (b"1e", Err(NumeralError::Empty)),
+        (b"", Err(NumeralError::Empty)),
+        (b".", Err(NumeralError::Empty)),
+        (b"e5", Err(NumeralError::Empty)),
+        (b"-7", Ok((-7, 0))),
+        (b"-0", Ok((0, 0))),
+        (b"1200", Ok((12, 2))),
+        (b"00012.3400", Ok((1234, -2))),
+        (b"5.", Ok((5, 0))),
+        (b"1E400", Ok((1, 400))),
+        (b"1E401", Err(NumeralError::Range)),
+        (b"0e99999999999999999999", Ok((0, 0))),
+        (b"1e99999999999999999999", Err(NumeralError::Range)),
+        (b"1d-18", Ok((1, -18))),
+        (b"123456789012345678", Ok((123_456_789_012_345_678, 0))),
+        (b"1234567890123456789", Err(NumeralError::TooLong)),
+        (b"0.1234567890123456780", Ok((123_456_789_012_345_678, -18))),
+        (b"1e+", Err(NumeralError::Empty)),
+        (b"--1", Err(NumeralError::BadByte { place: 1 })),
+        (b"1e5.0", Err(NumeralError::BadByte { place: 3 })),
+    ];
+    for (bytes, wanted) in cases {
+        assert_eq!(rt; read(bytes), wanted, "at {bytes:?}");
+    }
+    let half = Decimal::read(b"-.5").ok().ok_or("a decimal")?;
+    assert_eq!(rt;
+        half.negated(),
+        Decimal::read(b"0.50").ok().ok_or("a decimal")?
+    );
+    assert_eq!(rt; Ok(Decimal::zero()), Decimal::read(b"-0.0"));
+    Ok(())
+}
+
+/// What a numeral is written as, once read.
+fn rewritten(alloc: Global, bytes: &[u8]) -> Result<Text, Fail> {
+    let mut text = Text::new(alloc);
+    if bytes.len() < 100 {
+        let number = Decimal::read(bytes).ok().ok_or("a decimal")?;
+        number.append_to(&mut text)?;
+    }
+    Ok(text)
+}
+
+#[test]
+fn writes_numerals(rt: HostRuntime) -> Result<(), Fail> {
+    let cases: [(&[u8], &[u8]); 7] = [
+        (b"1.50D+2", b"15e1"),
+        (b".5", b"0.5"),
+        (b"-0.000", b"0"),
+        (b"-12.50", b"-12.5"),
+        (b"1200", b"12e2"),
+        (b"1e400", b"1e400"),
+        (b"123456789012345678e-18", b"0.123456789012345678"),
+    ];
+    for (bytes, wanted) in cases {
+        assert_eq!(rt;
+            rewritten(rt.alloc(), bytes)?.as_slice(),
+            wanted,
+            "of {bytes:?}"
+        );
+    }
+    Ok(())
+}
+
+#[test]
+fn writes_decimals(rt: HostRuntime) -> Result<(), Fail> {
+    let cases: [(i128, u8, &[u8]); 7] = [
+        (-5, 2, b"-0.05"),
+        (-1305, 2, b"-13.05"),
+        (7, 0, b"7"),
+        (0, 3, b"0.000"),
+        (-20, 1, b"-2.0"),
+        (1_000_000_000_000_000_000, 18, b"1.000000000000000000"),
+        (i128::MIN, 0, b"-170141183460469231731687303715884105728"),
+    ];
+    for (value, decimals, wanted) in cases {
+        assert_eq!(rt;
+            written(rt.alloc(), value, decimals)?.as_slice(),
+            wanted,
+            "of {value} with {decimals}"
+        );
+    }
+    Ok(())
+}
+
+/// Every row of the model comes before every cut, and then the number decides.
+#[test]
+fn orders_row_names(rt: HostRuntime) -> Result<(), Fail> {
+    let cases: [(RowRef, RowRef, bool); 6] = [
+        (RowRef::Model(4095), RowRef::Cut(0), true),
+        (RowRef::Cut(0), RowRef::Model(4095), false),
+        (RowRef::Model(1), RowRef::Model(2), true),
+        (RowRef::Model(2), RowRef::Model(2), false),
+        (RowRef::Cut(3), RowRef::Cut(511), true),
+        (RowRef::Cut(511), RowRef::Cut(3), false),
+    ];
+    for (left, right, wanted) in cases {
+        assert_eq!(rt; left.is_before(right), wanted, "at {left:?} and {right:?}");
+    }
     Ok(())
 }

@@ -1,6 +1,6 @@
 use Rattle.std.proofs.Common.{◌≡◌, ℕ, false, ◌&&◌, List, ℤ, int_lt, refl}
 use Rattle.ip_core.specs.declared.model.ModelParts.{ModelParts}
-use Rattle.search_truth.specs.Boxes.{least_value}
+use Rattle.ip_core.specs.Boxes.{least_value}
 use Rattle.plain_search.specs.Corners.{is_hopeless, cheapest_corner, is_feasible_at}
 use Rattle.plain_search.specs.Tasks.{chunk, on_corner}
 use Rattle.plain_search.specs.declared.task.Task.{Task}

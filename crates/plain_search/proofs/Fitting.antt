@@ -9,7 +9,8 @@ use Rattle.ip_core.specs.Sides.{Sides, IsPaired}
 use Rattle.ip_core.specs.Models.{IsModel}
 use Rattle.ip_core.specs.Truth.{value_at}
 use Rattle.ip_core.specs.declared.model.ModelParts.{ModelParts}
-use Rattle.search_truth.specs.Boxes.{low_child, high_child, least_value}
+use Rattle.ip_core.specs.Boxes.{least_value}
+use Rattle.search_truth.specs.Boxes.{low_child, high_child}
 use Rattle.search_truth.proofs.Within.{within_itself, within_low_child, within_high_child}
 use Rattle.plain_search.proofs.Reaches.{filled_reached, reached_small, or_false}
 use Rattle.plain_search.specs.Corners.{has_empty, has_conflict, is_hopeless, cheapest_corner, widest, middle, is_feasible_at}

@@ -9,7 +9,8 @@ use Rattle.ip_core.specs.Sides.{Sides, HasNoEmpty}
 use Rattle.ip_core.specs.Models.{IsModel}
 use Rattle.ip_core.specs.Truth.{value_at}
 use Rattle.ip_core.specs.declared.model.ModelParts.{ModelParts}
-use Rattle.search_truth.specs.Boxes.{IsClosed, IsCheapestCorner, IsWithin, cheapest_end, least_value}
+use Rattle.ip_core.specs.Boxes.{IsWithin, cheapest_end, least_value}
+use Rattle.search_truth.specs.Boxes.{IsClosed, IsCheapestCorner}
 use Rattle.search_truth.proofs.Corners.{corner_least}
 use Rattle.search_truth.proofs.Reasons.{closed_by_conflict, closed_by_empty}
 use Rattle.search_truth.proofs.Within.{within_columns}

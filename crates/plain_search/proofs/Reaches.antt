@@ -12,7 +12,7 @@ use Rattle.ip_core.specs.declared.model.ModelParts.{ModelParts}
 use Rattle.ip_core.specs.declared.row.Term.{Term}
 use Rattle.ip_core.specs.declared.row.Row.{Row}
 use Rattle.ip_core.proofs.IntSums.{unsigned_abs_between, unsigned_abs-int_sum_by, unsigned_abs-int_sum_below, sum_below_front}
-use Rattle.search_truth.specs.Boxes.{IsWithin, greatest_activity, greatest_part, least_share, greatest_share}
+use Rattle.ip_core.specs.Boxes.{IsWithin, greatest_activity, greatest_part, least_share, greatest_share}
 use Rattle.plain_search.specs.Corners.{any_below, has_empty}
 use Rattle.plain_search.specs.Fits.{IsReached, IsSmall}
 

@@ -5,7 +5,8 @@ use Rattle.ip_core.specs.Sides.{Sides, IsPaired}
 use Rattle.ip_core.specs.Models.{IsModel}
 use Rattle.ip_core.specs.Truth.{value_at}
 use Rattle.ip_core.specs.declared.model.ModelParts.{ModelParts}
-use Rattle.search_truth.specs.Boxes.{IsClosed, least_value, low_child, high_child}
+use Rattle.ip_core.specs.Boxes.{least_value}
+use Rattle.search_truth.specs.Boxes.{IsClosed, low_child, high_child}
 use Rattle.search_truth.specs.Search.{Done as NoSteps}
 use Rattle.search_truth.proofs.Covers.{search_is_true}
 use Rattle.search_truth.proofs.Reasons.{closed_by_bound}

@@ -6,7 +6,7 @@ use Rattle.ip_core.specs.Sides.{Sides}
 use Rattle.ip_core.specs.Rows.{activity}
 use Rattle.ip_core.specs.declared.model.ModelParts.{ModelParts}
 use Rattle.ip_core.specs.declared.row.Row.{Row}
-use Rattle.search_truth.specs.Boxes.{greatest_activity, cheapest_end}
+use Rattle.ip_core.specs.Boxes.{greatest_activity, cheapest_end}
 
 -- whether the test holds of a number below n
 abbrev pub any_below : ℕ → (ℕ → Bool) → Bool

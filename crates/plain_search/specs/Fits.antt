@@ -2,7 +2,7 @@ use Rattle.std.specs.Prelude.{ℕ, ◌≤◌, ◌<◌, ◌^◌, List, pos, ◌<�
 use Rattle.ip_core.specs.Numbers.{int_at}
 use Rattle.ip_core.specs.Sides.{Sides, IsPaired, reach}
 use Rattle.ip_core.specs.declared.model.ModelParts.{ModelParts}
-use Rattle.search_truth.specs.Boxes.{IsWithin}
+use Rattle.ip_core.specs.Boxes.{IsWithin}
 use Rattle.plain_search.specs.declared.entry.Entry.{Entry}
 use Rattle.plain_search.specs.declared.entry.Entry.TheVariants.{Start, Found, Split, Closed, Done}
 use Rattle.plain_search.specs.declared.machine.Slot.{Slot}

@@ -3,7 +3,8 @@ use Rattle.ip_core.specs.Numbers.{int_at}
 use Rattle.ip_core.specs.Models.{term_count}
 use Rattle.ip_core.specs.Truth.{value_at}
 use Rattle.ip_core.specs.declared.model.ModelParts.{ModelParts}
-use Rattle.search_truth.specs.Boxes.{least_value, low_child, high_child}
+use Rattle.ip_core.specs.Boxes.{least_value}
+use Rattle.search_truth.specs.Boxes.{low_child, high_child}
 use Rattle.plain_search.specs.Corners.{is_hopeless, cheapest_corner, widest, middle, is_feasible_at}
 use Rattle.plain_search.specs.declared.entry.Entry.{Entry}
 use Rattle.plain_search.specs.declared.entry.Entry.TheVariants.{Found, Split, Closed, Done}

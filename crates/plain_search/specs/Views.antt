@@ -1,7 +1,7 @@
 use Rattle.std.specs.Prelude.{ℕ, Bool, true, false, ◌&&◌, if◌then◌else◌, List, [], ◌∷◌, Option, Some, None, ℤ, pos, ◌+ℤ◌, int_lt}
 use Rattle.std.specs.Int.{int_min}
 use Rattle.ip_core.specs.declared.model.ModelParts.{ModelParts}
-use Rattle.search_truth.specs.Boxes.{least_value, greatest_value}
+use Rattle.ip_core.specs.Boxes.{least_value, greatest_value}
 use Rattle.plain_search.specs.Nodes.{insert_open, first_named, without, low_node, high_node}
 use Rattle.plain_search.specs.declared.entry.Entry.{Entry}
 use Rattle.plain_search.specs.declared.entry.Entry.TheVariants.{Start, Found, Split, Closed, Done}

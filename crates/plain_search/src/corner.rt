@@ -3,7 +3,7 @@ ghost use Rattle.std.specs.Int.{int_div_euclid, int_max, int_min};
 ghost use Rattle.ip_core.specs.Numbers.{int_at};
 ghost use Rattle.ip_core.specs.Sides.{IsPaired, reach};
 ghost use Rattle.ip_core.specs.Rows.{IsRow, part_width};
-ghost use Rattle.search_truth.specs.Boxes.{IsWithin, cheapest_end as cheapest_end_of, greatest_activity, greatest_value, least_value};
+ghost use Rattle.ip_core.specs.Boxes.{IsWithin, cheapest_end as cheapest_end_of, greatest_activity, greatest_value, least_value};
 ghost use Rattle.plain_search.specs.Corners.{cheapest_corner, has_empty, has_conflict, is_hopeless, middle, widest, width_at};
 ghost use Rattle.plain_search.specs.Fits.{IsReached, IsSmall};
 

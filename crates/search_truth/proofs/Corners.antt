@@ -7,8 +7,9 @@ use Rattle.ip_core.specs.Sides.{Sides, IsInside, HasNoEmpty}
 use Rattle.ip_core.specs.Models.{IsModel}
 use Rattle.ip_core.specs.Truth.{value_at}
 use Rattle.ip_core.specs.declared.model.ModelParts.{ModelParts}
-use Rattle.search_truth.specs.Boxes.{IsWithin, IsCheapestCorner, least_share, least_value}
-use Rattle.search_truth.proofs.Products.{mul_pos-le, mul_negsuc-le}
+use Rattle.ip_core.specs.Boxes.{IsWithin, least_share, least_value}
+use Rattle.search_truth.specs.Boxes.{IsCheapestCorner}
+use Rattle.ip_core.proofs.Products.{mul_pos-le, mul_negsuc-le}
 use Rattle.search_truth.proofs.Within.{inside_root, within_columns}
 
 at_least_zero : (n : ℕ) → int_le (pos 0) (pos n) ≡ true

@@ -8,7 +8,8 @@ use Rattle.ip_core.specs.Truth.{HasNoPoint, IsBest, IsFeasible, value_at}
 use Rattle.ip_core.specs.declared.limits.TheConstants.{MAX_BOUND}
 use Rattle.ip_core.specs.declared.model.ModelParts.{ModelParts}
 use Rattle.ip_core.specs.declared.row.Row.{Row}
-use Rattle.search_truth.specs.Boxes.{least_value, greatest_value, greatest_activity, IsConflict, IsClosed, low_child, high_child, cheapest_end}
+use Rattle.ip_core.specs.Boxes.{least_value, greatest_value, greatest_activity, IsConflict, cheapest_end}
+use Rattle.search_truth.specs.Boxes.{IsClosed, low_child, high_child}
 use Rattle.search_truth.specs.Search.{Searched, Closed, Parted, Same, Found, Step, Done, More, begun, cutoff_of}
 use Rattle.search_truth.proofs.Reasons.{closed_by_conflict_at, closed_by_bound}
 use Rattle.search_truth.proofs.Stepping.{step_amid}

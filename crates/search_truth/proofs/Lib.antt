@@ -1,4 +1,3 @@
-pub mod Products
 pub mod Values
 pub mod Children
 pub mod Reasons

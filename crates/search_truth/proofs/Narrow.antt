@@ -12,7 +12,8 @@ use Rattle.ip_core.specs.declared.model.ModelParts.{ModelParts}
 use Rattle.ip_core.specs.declared.row.Term.{Term}
 use Rattle.ip_core.specs.declared.row.Row.{Row}
 use Rattle.ip_core.proofs.IntSums.{unsigned_abs_between, unsigned_abs-int_sum_by, unsigned_abs-int_sum_below, sum_below_front}
-use Rattle.search_truth.specs.Boxes.{IsWithin, IsInReach, least_share, greatest_share, greatest_part, greatest_activity}
+use Rattle.ip_core.specs.Boxes.{IsWithin, least_share, greatest_share, greatest_part, greatest_activity}
+use Rattle.search_truth.specs.Boxes.{IsInReach}
 use Rattle.search_truth.proofs.Within.{within_columns}
 
 -- the ends of the root box are in its own reach, also where a column is empty

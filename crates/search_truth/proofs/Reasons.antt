@@ -7,7 +7,8 @@ use Rattle.ip_core.specs.Models.{IsModel}
 use Rattle.ip_core.specs.Truth.{value_at}
 use Rattle.ip_core.specs.declared.model.ModelParts.{ModelParts}
 use Rattle.ip_core.specs.declared.row.Row.{Row}
-use Rattle.search_truth.specs.Boxes.{IsWithin, IsConflict, IsClosed, IsCheapestCorner, least_value, greatest_activity}
+use Rattle.ip_core.specs.Boxes.{IsWithin, IsConflict, least_value, greatest_activity}
+use Rattle.search_truth.specs.Boxes.{IsClosed, IsCheapestCorner}
 use Rattle.search_truth.proofs.Corners.{corner_least}
 use Rattle.search_truth.proofs.Values.{least_value-le, activity-le_greatest}
 

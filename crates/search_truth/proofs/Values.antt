@@ -7,8 +7,8 @@ use Rattle.ip_core.specs.Models.{IsModel}
 use Rattle.ip_core.specs.Truth.{value_at}
 use Rattle.ip_core.specs.declared.model.ModelParts.{ModelParts}
 use Rattle.ip_core.specs.declared.row.Term.{Term}
-use Rattle.search_truth.specs.Boxes.{least_share, greatest_share, least_value, greatest_value, greatest_part, greatest_activity}
-use Rattle.search_truth.proofs.Products.{least_product, greatest_product, int_sum_below-le, add-le_both}
+use Rattle.ip_core.specs.Boxes.{least_share, greatest_share, least_value, greatest_value, greatest_part, greatest_activity}
+use Rattle.ip_core.proofs.Products.{least_product, greatest_product, int_sum_below-le, add-le_both}
 
 -- a point of the box has at least the least value
 pub least_value-le : (m : ModelParts) (s : Sides) (y : List ℤ) → IsModel m → length y ≡ length m.cols → IsInside s y → least_value m s ≤ℤ value_at m y

@@ -5,7 +5,8 @@ use Rattle.ip_core.specs.Numbers.{int_at}
 use Rattle.ip_core.specs.Sides.{Sides, IsInside, IsPaired, HasNoEmpty, with_low, with_high}
 use Rattle.ip_core.specs.Models.{IsModel}
 use Rattle.ip_core.specs.declared.model.ModelParts.{ModelParts}
-use Rattle.search_truth.specs.Boxes.{IsWithin, low_child, high_child}
+use Rattle.ip_core.specs.Boxes.{IsWithin}
+use Rattle.search_truth.specs.Boxes.{low_child, high_child}
 use Rattle.search_truth.proofs.Children.{set_keeps}
 
 -- a box lies within itself

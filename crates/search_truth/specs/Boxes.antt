@@ -6,41 +6,7 @@ use Rattle.ip_core.specs.Truth.{IsFeasible, value_at}
 use Rattle.ip_core.specs.declared.model.ModelParts.{ModelParts}
 use Rattle.ip_core.specs.declared.row.Row.{Row}
 use Rattle.ip_core.specs.declared.row.Term.{Term}
-
--- the least that column j can add to a value over the box: the lesser of its cost times its low and its high
-abbrev pub least_share : ModelParts → Sides → ℕ → ℤ
-least_share m s j = int_min (int_at m.costs j *ℤ int_at s.lows j) (int_at m.costs j *ℤ int_at s.highs j)
-
--- the most that column j can add
-abbrev pub greatest_share : ModelParts → Sides → ℕ → ℤ
-greatest_share m s j = int_max (int_at m.costs j *ℤ int_at s.lows j) (int_at m.costs j *ℤ int_at s.highs j)
-
--- the least value over the box, rows aside
-abbrev pub least_value : ModelParts → Sides → ℤ
-least_value m s = int_sum_below (length m.costs) (least_share m s)
-
--- the greatest value over the box, rows aside
-abbrev pub greatest_value : ModelParts → Sides → ℤ
-greatest_value m s = int_sum_below (length m.costs) (greatest_share m s)
-
--- the most that a term can add to an activity over the box
-abbrev pub greatest_part : Sides → Term → ℤ
-greatest_part s t = int_max (t.coef *ℤ int_at s.lows t.col) (t.coef *ℤ int_at s.highs t.col)
-
--- the greatest activity of terms over the box
-abbrev pub greatest_activity : Sides → List Term → ℤ
-greatest_activity s terms = int_sum_by (λ t. greatest_part s t) terms
-
--- the row asks for more than its greatest activity over the box
-pub record IsConflict (s : Sides) (row : Row) : Type 0 where
-  pub below : greatest_activity s row.terms <ℤ row.least
-
--- the box has the columns of the root box, with no low below that box's and no high above it
-pub record IsWithin (root s : Sides) : Type 0 where
-  pub as_many_lows : length s.lows ≡ length root.lows
-  pub as_many_highs : length s.highs ≡ length root.highs
-  pub lows : (j : ℕ) → j < length s.lows → int_at root.lows j ≤ℤ int_at s.lows j
-  pub highs : (j : ℕ) → j < length s.lows → int_at s.highs j ≤ℤ int_at root.highs j
+use Rattle.ip_core.specs.Boxes.{cheapest_end}
 
 -- both ends of each column are no further from 0 than the root box reaches there
 pub record IsInReach (root s : Sides) : Type 0 where
@@ -58,10 +24,6 @@ high_child s col at = with_low s col (at +ℤ pos 1)
 -- no feasible point of the box has a value below the cutoff
 pub record IsClosed (m : ModelParts) (cutoff : ℤ) (s : Sides) : Type 0 where
   pub none_below : (y : List ℤ) → IsFeasible m y → IsInside s y → cutoff ≤ℤ value_at m y
-
--- the end of column j at which a cost `c` costs least: its low where the cost is 0 or more, else its high
-abbrev pub cheapest_end : Sides → ℤ → ℕ → ℤ
-cheapest_end s c j = if int_le (pos 0) c then int_at s.lows j else int_at s.highs j
 
 -- each column stands at its cheapest end
 pub record IsCheapestCorner (m : ModelParts) (s : Sides) (x : List ℤ) : Type 0 where

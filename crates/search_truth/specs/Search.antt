@@ -3,7 +3,8 @@ use Rattle.ip_core.specs.Sides.{Sides}
 use Rattle.ip_core.specs.Models.{IsModel}
 use Rattle.ip_core.specs.Truth.{IsFeasible, IsBest, HasNoPoint, value_at}
 use Rattle.ip_core.specs.declared.model.ModelParts.{ModelParts}
-use Rattle.search_truth.specs.Boxes.{IsClosed, greatest_value, low_child, high_child}
+use Rattle.ip_core.specs.Boxes.{greatest_value}
+use Rattle.search_truth.specs.Boxes.{IsClosed, low_child, high_child}
 
 -- a search: the boxes that are left, and the best point so far
 pub record Searched : Type 0 where

@@ -3,7 +3,8 @@ use Rattle.std.proofs.lemmas.Int.{to_z-of_z}
 use Rattle.ip_core.specs.Numbers.{int_at, int_sum_below}
 use Rattle.ip_core.specs.Sides.{IsInside}
 use Rattle.ip_core.specs.Rows.{part_width}
-use Rattle.ip_core.proofs.IntSums.{int_sum_below_more, running_fits, running_is}
+use Rattle.ip_core.proofs.IntSums.{int_sum_below_more}
+use Rattle.ip_core.proofs.RunningSums.{sum_fits, sum_is}
 use Rattle.ip_core.proofs.Widths.{narrow_fits, costs_within_width, part_within_width, model_costs_narrow}
 use Rattle.ip_core.proofs.feasible.value.Goals as goal
 
@@ -38,7 +39,7 @@ next_is c =
     rw (int_sum_below_more (λ k. int_at costs k *ℤ int_at x k) j, part) (ap (λ z. z +ℤ (int_at costs j *ℤ int_at x j)) c.loop-j.invariant)
 
 pub overflow_add-sum : goal.overflow_add-sum
-overflow_add-sum c = running_fits (to_z w64 c.loop-j.sum-bits) c.product-sum.result _ (record { sfits = c.product-sum.type_inv }) (next_is c) (next_fits c)
+overflow_add-sum c = sum_fits w64 (to_z w64 c.loop-j.sum-bits) c.product-sum.result _ (record { sfits = c.product-sum.type_inv }) (next_is c) (next_fits c)
 
 pub loop-j-preserved : goal.loop-j-preserved
-loop-j-preserved c = running_is (to_z w64 c.loop-j.sum-bits) c.product-sum.result _ (record { sfits = c.product-sum.type_inv }) (next_is c) (next_fits c)
+loop-j-preserved c = sum_is w64 (to_z w64 c.loop-j.sum-bits) c.product-sum.result _ (record { sfits = c.product-sum.type_inv }) (next_is c) (next_fits c)

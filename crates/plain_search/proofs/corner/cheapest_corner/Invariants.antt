@@ -1,6 +1,6 @@
 use Rattle.std.proofs.Common.{◌≡◌}
 use Rattle.ip_core.specs.Numbers.{int_at}
-use Rattle.search_truth.specs.Boxes.{cheapest_end}
+use Rattle.ip_core.specs.Boxes.{cheapest_end}
 use Rattle.plain_search.specs.Corners.{list_below}
 use Rattle.plain_search.proofs.corner.cheapest_corner.Given as goal
 

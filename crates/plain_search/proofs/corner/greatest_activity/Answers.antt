@@ -3,9 +3,10 @@ use Rattle.std.specs.Int.{int_max}
 use Rattle.std.proofs.lemmas.Int.{to_z-of_z}
 use Rattle.ip_core.specs.Numbers.{int_at}
 use Rattle.ip_core.specs.declared.row.Term.{Term}
-use Rattle.ip_core.proofs.IntSums.{int_sum_by_more, running_fits, running_is}
+use Rattle.ip_core.proofs.IntSums.{int_sum_by_more}
+use Rattle.ip_core.proofs.RunningSums.{sum_fits, sum_is}
 use Rattle.ip_core.proofs.Widths.{narrow_fits}
-use Rattle.search_truth.specs.Boxes.{greatest_activity, greatest_part}
+use Rattle.ip_core.specs.Boxes.{greatest_activity, greatest_part}
 use Rattle.plain_search.proofs.Reaches.{activity_reached}
 use Rattle.plain_search.proofs.corner.greatest_activity.Goals as goal
 
@@ -24,7 +25,7 @@ next_is c =
     rw (← c.as_slice-term-items.ensures, more, part) (ap (λ z. z +ℤ greatest_part s term) (c.loop-term.invariant ∙ ap (λ ts. greatest_activity s (take i ts)) (sym c.as_slice-term-items.ensures)))
 
 pub overflow_add-sum : goal.overflow_add-sum
-overflow_add-sum c = running_fits (to_z w64 c.loop-term.sum-bits) c.greatest_part-sum.result _ (record { sfits = c.greatest_part-sum.type_inv }) (next_is c) (next_fits c)
+overflow_add-sum c = sum_fits w64 (to_z w64 c.loop-term.sum-bits) c.greatest_part-sum.result _ (record { sfits = c.greatest_part-sum.type_inv }) (next_is c) (next_fits c)
 
 pub loop-term-preserved : goal.loop-term-preserved
-loop-term-preserved c = running_is (to_z w64 c.loop-term.sum-bits) c.greatest_part-sum.result _ (record { sfits = c.greatest_part-sum.type_inv }) (next_is c) (next_fits c)
+loop-term-preserved c = sum_is w64 (to_z w64 c.loop-term.sum-bits) c.greatest_part-sum.result _ (record { sfits = c.greatest_part-sum.type_inv }) (next_is c) (next_fits c)

@@ -1,5 +1,5 @@
 use Rattle.std.proofs.Common.{◌≡◌, take}
-use Rattle.search_truth.specs.Boxes.{greatest_activity}
+use Rattle.ip_core.specs.Boxes.{greatest_activity}
 use Rattle.plain_search.proofs.corner.greatest_activity.Given as goal
 
 abbrev pub invariant-loop-term : goal.invariant-loop-term

@@ -3,9 +3,10 @@ use Rattle.std.specs.Int.{int_min}
 use Rattle.std.proofs.lemmas.Int.{to_z-of_z}
 use Rattle.ip_core.specs.Numbers.{int_at, int_sum_below}
 use Rattle.ip_core.specs.Rows.{part_width}
-use Rattle.ip_core.proofs.IntSums.{int_sum_below_more, running_fits, running_is}
+use Rattle.ip_core.proofs.IntSums.{int_sum_below_more}
+use Rattle.ip_core.proofs.RunningSums.{sum_fits, sum_is}
 use Rattle.ip_core.proofs.Widths.{narrow_fits, part_within_width, model_costs_narrow}
-use Rattle.search_truth.specs.Boxes.{least_share}
+use Rattle.ip_core.specs.Boxes.{least_share}
 use Rattle.plain_search.proofs.Reaches.{least_reached}
 use Rattle.plain_search.proofs.corner.least_value.Goals as goal
 
@@ -39,10 +40,10 @@ next_is c =
     rw (int_sum_below_more (least_share m s) j, part) (ap (λ z. z +ℤ least_share m s j) c.loop-j.invariant)
 
 pub overflow_add-sum : goal.overflow_add-sum
-overflow_add-sum c = running_fits (to_z w64 c.loop-j.sum-bits) c.least_part-sum.result _ (record { sfits = c.least_part-sum.type_inv }) (next_is c) (next_fits c)
+overflow_add-sum c = sum_fits w64 (to_z w64 c.loop-j.sum-bits) c.least_part-sum.result _ (record { sfits = c.least_part-sum.type_inv }) (next_is c) (next_fits c)
 
 pub loop-j-preserved : goal.loop-j-preserved
-loop-j-preserved c = running_is (to_z w64 c.loop-j.sum-bits) c.least_part-sum.result _ (record { sfits = c.least_part-sum.type_inv }) (next_is c) (next_fits c)
+loop-j-preserved c = sum_is w64 (to_z w64 c.loop-j.sum-bits) c.least_part-sum.result _ (record { sfits = c.least_part-sum.type_inv }) (next_is c) (next_fits c)
 
 pub returns-clause-small : goal.returns-clause-small
 returns-clause-small c =

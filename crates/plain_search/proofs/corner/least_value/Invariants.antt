@@ -1,6 +1,6 @@
 use Rattle.std.proofs.Common.{◌≡◌}
 use Rattle.ip_core.specs.Numbers.{int_sum_below}
-use Rattle.search_truth.specs.Boxes.{least_share}
+use Rattle.ip_core.specs.Boxes.{least_share}
 use Rattle.plain_search.proofs.corner.least_value.Given as goal
 
 abbrev pub invariant-loop-j : goal.invariant-loop-j
