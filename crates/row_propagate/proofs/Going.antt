@@ -1,0 +1,63 @@
+use Rattle.std.proofs.Common.{◌≡◌, ◌∙◌, ℕ, ◌+◌, ◌<◌, true, false, List, length, get_or, drop, refl, sym, ap}
+use Rattle.std.proofs.lemmas.Bool.{false≢true}
+use Rattle.std.proofs.lemmas.List.{drop_more, get_or_default}
+use Rattle.ip_core.specs.declared.row_ref.RowRef.TheVariants.{Model, Cut}
+use Rattle.ip_core.specs.Sides.{Sides}
+use Rattle.ip_core.specs.declared.row.Row.{Row}
+use Rattle.ip_core.specs.declared.row.Term.{Term}
+use Rattle.ip_core.specs.declared.row_ref.RowRef.{RowRef}
+use Rattle.ip_core.specs.declared.leaf.Tighten.{Tighten}
+use Rattle.row_propagate.specs.declared.outcome.Outcome.{Outcome}
+use Rattle.row_propagate.specs.declared.outcome.Outcome.TheVariants.{Open, Conflict, Empty}
+use Rattle.row_propagate.specs.Passes.{Run, open_run, run_of, is_open, go_on, after_column, after_columns, after_row, after_rows}
+use Rattle.row_propagate.specs.Replay.{IsNaming, IsReplayed, no_row, row_named}
+
+-- an outcome that is open is Open
+pub open_is : (outcome : Outcome) → is_open outcome ≡ true → outcome ≡ Open
+open_is Open same = refl
+open_is (Conflict name) same = absurd (false≢true same)
+open_is (Empty col) same = absurd (false≢true same)
+
+goes_on : (s : Sides) (steps : List Tighten) (outcome : Outcome) (next : Run → Run) → is_open outcome ≡ true → go_on (run_of s steps outcome) next ≡ next (open_run s steps)
+goes_on s steps Open next same = refl
+goes_on s steps (Conflict name) next same = absurd (false≢true same)
+goes_on s steps (Empty col) next same = absurd (false≢true same)
+
+stays : (s : Sides) (steps : List Tighten) (outcome : Outcome) (next : Run → Run) → is_open outcome ≡ false → go_on (run_of s steps outcome) next ≡ run_of s steps outcome
+stays s steps Open next same = absurd (false≢true (sym same))
+stays s steps (Conflict name) next same = refl
+stays s steps (Empty col) next same = refl
+
+-- what comes next where the run is open
+pub go_open : (run : Run) (s : Sides) (steps : List Tighten) (outcome : Outcome) (next : Run → Run) → run_of s steps outcome ≡ run → is_open outcome ≡ true → go_on run next ≡ next (open_run s steps)
+go_open run s steps outcome next same open_outcome = ap (λ r. go_on r next) (sym same) ∙ goes_on s steps outcome next open_outcome
+
+-- and where it is closed
+pub go_closed : (run : Run) (s : Sides) (steps : List Tighten) (outcome : Outcome) (next : Run → Run) → run_of s steps outcome ≡ run → is_open outcome ≡ false → go_on run next ≡ run_of s steps outcome
+go_closed run s steps outcome next same closed = ap (λ r. go_on r next) (sym same) ∙ stays s steps outcome next closed
+
+-- the next of the columns that are left
+pub columns_next : (name : RowRef) (row : Row) (terms : List Term) (i : ℕ) (d : Term) (run : Run) → i < length terms → after_columns name row (drop i terms) run ≡ go_on (after_column name row (get_or terms i d).col run) (after_columns name row (drop (i + 1) terms))
+columns_next name row terms i d run within = ap (λ ts. after_columns name row ts run) (drop_more terms i d within)
+
+-- the next of the rows that are left
+pub rows_next : (name : ℕ → RowRef) (rows : List Row) (i : ℕ) (d : Row) (run : Run) → i < length rows → after_rows name i (drop i rows) run ≡ go_on (after_row (name i) (get_or rows i d) run) (after_rows name (i + 1) (drop (i + 1) rows))
+rows_next name rows i d run within = ap (λ rs. after_rows name i rs run) (drop_more rows i d within)
+
+-- nothing happened, and one thing after another
+pub replayed_none : (named : RowRef → Row) (s : Sides) (steps : List Tighten) → IsReplayed named s steps s steps
+replayed_none named s steps = record { from = λ start same. same }
+
+pub replayed_both : (named : RowRef → Row) (a b c : Sides) (first second third : List Tighten) → IsReplayed named a first b second → IsReplayed named b second c third → IsReplayed named a first c third
+replayed_both named a b c first second third before after = record { from = λ start same. after.from start (before.from start same) }
+
+-- the rows and cuts have their names
+pub model_naming : (rows cuts : List Row) → IsNaming (row_named rows cuts) Model rows
+model_naming rows cuts = record { at = λ i other within. get_or_default rows i no_row other within }
+
+pub cut_naming : (rows cuts : List Row) → IsNaming (row_named rows cuts) Cut cuts
+cut_naming rows cuts = record { at = λ i other within. get_or_default cuts i no_row other within }
+
+-- a row that was read has its name
+pub named_row : (named : RowRef → Row) (name : ℕ → RowRef) (rows : List Row) (i : ℕ) (given : RowRef) (row : Row) → IsNaming named name rows → i < length rows → given ≡ name i → row ≡ get_or rows i row → named given ≡ row
+named_row named name rows i given row naming within same read = ap named same ∙ naming.at i row within ∙ sym read

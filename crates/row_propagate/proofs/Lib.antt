@@ -1,0 +1,13 @@
+pub mod Parts
+pub mod Keeping
+pub mod Changes
+pub mod WorkedRows
+pub mod Stepping
+pub mod Readiness
+pub mod Going
+pub mod Passing
+pub mod FirstEmpty
+pub mod Named
+pub mod Replaying
+pub mod Causes
+pub mod Propagating

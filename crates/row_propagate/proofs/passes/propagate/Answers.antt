@@ -1,0 +1,110 @@
+use Rattle.std.proofs.Common.{◌≡◌, ◌∙◌, ℕ, ◌+◌, ◌*◌, length, sym, ap, ap₂, subst}
+use Rattle.ip_core.specs.Models.{term_count}
+use Rattle.ip_core.specs.declared.model.ModelParts.{ModelParts}
+use Rattle.row_propagate.specs.Passes.{Propagated, after_passes, counted_of, open_run, run_of}
+use Rattle.row_propagate.specs.Ready.{AreReady, AreShort}
+use Rattle.row_propagate.proofs.Named.{rows_short}
+use Rattle.row_propagate.proofs.Readiness.{are_ready_within}
+use Rattle.row_propagate.proofs.Propagating.{propagated_empty, propagated_solid, replayed_all, box_keeps, none_met}
+use Rattle.row_propagate.proofs.passes.propagate.Goals as goal
+
+pub returns-in-Some-clause-sides : goal.returns-in-Some-clause-sides
+returns-in-Some-clause-sides c = sym (ap (λ (p : Propagated). p.sides) (propagated_empty c.args.model.now.rows c.args.cuts.now c.args.bounds.now c.in-Some.col c.in-Some.ensures))
+
+pub returns-in-Some-clause-steps : goal.returns-in-Some-clause-steps
+returns-in-Some-clause-steps c = c.requires.unlisted ∙ sym (ap (λ (p : Propagated). p.steps) (propagated_empty c.args.model.now.rows c.args.cuts.now c.args.bounds.now c.in-Some.col c.in-Some.ensures))
+
+pub returns-in-Some-clause-run : goal.returns-in-Some-clause-run
+returns-in-Some-clause-run c = sym (ap (λ (p : Propagated). p.run) (propagated_empty c.args.model.now.rows c.args.cuts.now c.args.bounds.now c.in-Some.col c.in-Some.ensures))
+
+pub run_passes-requires-clause-ready_rows : goal.run_passes-requires-clause-ready_rows
+run_passes-requires-clause-ready_rows c =
+    let m = c.args.model.now in
+    let same = c.as_slice-rows.ensures ∙ ap (λ (p : ModelParts). p.rows) c.parts-parts.ensures.value in
+    subst (AreReady c.args.bounds.now) (sym same) (are_ready_within (length m.cols) m.root c.args.bounds.now m.rows c.parts-parts.ensures.limits.bounds.box (c.requires.within c.in_default.ensures) c.in_default.ensures c.parts-parts.ensures.limits.rows)
+
+pub run_passes-requires-clause-ready_cuts : goal.run_passes-requires-clause-ready_cuts
+run_passes-requires-clause-ready_cuts c =
+    let m = c.args.model.now in
+    are_ready_within (length m.cols) m.root c.args.bounds.now c.args.cuts.now c.parts-parts.ensures.limits.bounds.box (c.requires.within c.in_default.ensures) c.in_default.ensures c.requires.cuts
+
+pub term_count-requires-clause-short : goal.term_count-requires-clause-short
+term_count-requires-clause-short c =
+    let m = c.args.model.now in
+    let same = c.as_slice-rows.ensures ∙ ap (λ (p : ModelParts). p.rows) c.parts-parts.ensures.value in
+    subst AreShort (sym same) (rows_short (length m.cols) m.root m.rows c.parts-parts.ensures.limits.bounds.columns c.parts-parts.ensures.limits.rows)
+
+pub term_count-requires-2-clause-short : goal.term_count-requires-2-clause-short
+term_count-requires-2-clause-short c =
+    let m = c.args.model.now in
+    rows_short (length m.cols) m.root c.args.cuts.now c.parts-parts.ensures.limits.bounds.columns c.requires.cuts
+
+pub returns-in_err-outcome-clause-replays : goal.returns-in_err-outcome-clause-replays
+returns-in_err-outcome-clause-replays c =
+    let same = c.as_slice-rows.ensures ∙ ap (λ (p : ModelParts). p.rows) c.parts-parts.ensures.value in
+    replayed_all c.args.model.now.rows c.as_slice-rows.result.now c.args.cuts.now c.args.bounds.now c.run_passes.new.bounds c.args.steps.now c.run_passes.new.steps same c.requires.unlisted c.run_passes.ensures.replays
+
+pub returns-clause-replays : goal.returns-clause-replays
+returns-clause-replays c =
+    let same = c.as_slice-rows.ensures ∙ ap (λ (p : ModelParts). p.rows) c.parts-parts.ensures.value in
+    replayed_all c.args.model.now.rows c.as_slice-rows.result.now c.args.cuts.now c.args.bounds.now c.run_passes.new.bounds c.args.steps.now c.run_passes.new.steps same c.requires.unlisted c.run_passes.ensures.replays
+
+pub returns-in_err-outcome-clause-keeps : goal.returns-in_err-outcome-clause-keeps
+returns-in_err-outcome-clause-keeps c =
+    let m = c.args.model.now in
+    let cuts = c.args.cuts.now in
+    let s = c.args.bounds.now in
+    let same = c.as_slice-rows.ensures ∙ ap (λ (p : ModelParts). p.rows) c.parts-parts.ensures.value in
+    let columns = (c.requires.within c.in_default.ensures).as_many_lows ∙ c.parts-parts.ensures.limits.bounds.box in
+    box_keeps (length m.cols) m.root m.rows cuts s c.run_passes.new.bounds c.run_passes.new.steps c.parts-parts.ensures.limits.rows c.requires.cuts columns (replayed_all m.rows c.as_slice-rows.result.now cuts s c.run_passes.new.bounds c.args.steps.now c.run_passes.new.steps same c.requires.unlisted c.run_passes.ensures.replays)
+
+pub returns-clause-keeps : goal.returns-clause-keeps
+returns-clause-keeps c =
+    let m = c.args.model.now in
+    let cuts = c.args.cuts.now in
+    let s = c.args.bounds.now in
+    let same = c.as_slice-rows.ensures ∙ ap (λ (p : ModelParts). p.rows) c.parts-parts.ensures.value in
+    let columns = (c.requires.within c.in_default.ensures).as_many_lows ∙ c.parts-parts.ensures.limits.bounds.box in
+    box_keeps (length m.cols) m.root m.rows cuts s c.run_passes.new.bounds c.run_passes.new.steps c.parts-parts.ensures.limits.rows c.requires.cuts columns (replayed_all m.rows c.as_slice-rows.result.now cuts s c.run_passes.new.bounds c.args.steps.now c.run_passes.new.steps same c.requires.unlisted c.run_passes.ensures.replays)
+
+pub returns-clause-sides : goal.returns-clause-sides
+returns-clause-sides c =
+    let m = c.args.model.now in
+    let cuts = c.args.cuts.now in
+    let s = c.args.bounds.now in
+    let same = c.as_slice-rows.ensures ∙ ap (λ (p : ModelParts). p.rows) c.parts-parts.ensures.value in
+    let run = run_of c.run_passes.new.bounds c.run_passes.new.steps c.in_ok-outcome.outcome in
+    let whole : counted_of run c.in_ok-outcome.passes ≡ after_passes 10 m.rows cuts (open_run s c.args.steps.now) 0 = c.in_ok-outcome.ensures.whole ∙ ap (λ rs. after_passes 10 rs cuts (open_run s c.args.steps.now) 0) same in
+    ap (λ (p : Propagated). p.sides) (propagated_solid m.rows cuts s c.args.steps.now (counted_of run c.in_ok-outcome.passes) c.in_default.ensures c.requires.unlisted whole)
+
+pub returns-clause-steps : goal.returns-clause-steps
+returns-clause-steps c =
+    let m = c.args.model.now in
+    let cuts = c.args.cuts.now in
+    let s = c.args.bounds.now in
+    let same = c.as_slice-rows.ensures ∙ ap (λ (p : ModelParts). p.rows) c.parts-parts.ensures.value in
+    let run = run_of c.run_passes.new.bounds c.run_passes.new.steps c.in_ok-outcome.outcome in
+    let whole : counted_of run c.in_ok-outcome.passes ≡ after_passes 10 m.rows cuts (open_run s c.args.steps.now) 0 = c.in_ok-outcome.ensures.whole ∙ ap (λ rs. after_passes 10 rs cuts (open_run s c.args.steps.now) 0) same in
+    ap (λ (p : Propagated). p.steps) (propagated_solid m.rows cuts s c.args.steps.now (counted_of run c.in_ok-outcome.passes) c.in_default.ensures c.requires.unlisted whole)
+
+pub returns-clause-run : goal.returns-clause-run
+returns-clause-run c =
+    let m = c.args.model.now in
+    let cuts = c.args.cuts.now in
+    let s = c.args.bounds.now in
+    let same = c.as_slice-rows.ensures ∙ ap (λ (p : ModelParts). p.rows) c.parts-parts.ensures.value in
+    let run = run_of c.run_passes.new.bounds c.run_passes.new.steps c.in_ok-outcome.outcome in
+    let whole : counted_of run c.in_ok-outcome.passes ≡ after_passes 10 m.rows cuts (open_run s c.args.steps.now) 0 = c.in_ok-outcome.ensures.whole ∙ ap (λ rs. after_passes 10 rs cuts (open_run s c.args.steps.now) 0) same in
+    let terms = ap₂ (λ a b. a + b + 1) (c.term_count.ensures.value ∙ ap term_count same) c.term_count-2.ensures.value in
+    ap₂ (λ (a b : ℕ). record { outcome = c.in_ok-outcome.outcome; passes = c.in_ok-outcome.passes; work = a * b }) c.from.ensures terms ∙ ap (λ (p : Propagated). p.run) (propagated_solid m.rows cuts s c.args.steps.now (counted_of run c.in_ok-outcome.passes) c.in_default.ensures c.requires.unlisted whole)
+
+pub returns-clause-none : goal.returns-clause-none
+returns-clause-none c =
+    let m = c.args.model.now in
+    let cuts = c.args.cuts.now in
+    let s = c.args.bounds.now in
+    let same = c.as_slice-rows.ensures ∙ ap (λ (p : ModelParts). p.rows) c.parts-parts.ensures.value in
+    let columns = (c.requires.within c.in_default.ensures).as_many_lows ∙ c.parts-parts.ensures.limits.bounds.box in
+    let run = run_of c.run_passes.new.bounds c.run_passes.new.steps c.in_ok-outcome.outcome in
+    let whole : counted_of run c.in_ok-outcome.passes ≡ after_passes 10 m.rows cuts (open_run s c.args.steps.now) 0 = c.in_ok-outcome.ensures.whole ∙ ap (λ rs. after_passes 10 rs cuts (open_run s c.args.steps.now) 0) same in
+    none_met (length m.cols) m.root m.rows cuts s c.args.steps.now run c.in_ok-outcome.passes c.parts-parts.ensures.limits.rows c.requires.cuts columns whole (box_keeps (length m.cols) m.root m.rows cuts s c.run_passes.new.bounds c.run_passes.new.steps c.parts-parts.ensures.limits.rows c.requires.cuts columns (replayed_all m.rows c.as_slice-rows.result.now cuts s c.run_passes.new.bounds c.args.steps.now c.run_passes.new.steps same c.requires.unlisted c.run_passes.ensures.replays))

@@ -1,0 +1,5 @@
+pub mod Ready
+pub mod Rounding
+pub mod Passes
+pub mod Replay
+pub mod Points
