@@ -1,0 +1,13 @@
+//! Multipliers for the rows of a model, found by climbing: row by row, each takes the first of a few candidates at which
+//! the numerator of the bound is greatest.
+#![tactic(auto)]
+
+mod ascent;
+mod climb;
+mod laws;
+#[cfg(test)]
+mod tests;
+mod work;
+
+pub use ascent::{Ascent, ascend};
+pub use laws::{no_round_lowers, no_row_lowers};

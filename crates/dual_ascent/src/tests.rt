@@ -1,0 +1,286 @@
+ghost use Rattle.std.specs.Prelude.{◌≤◌};
+ghost use Rattle.ip_core.specs.Models.{term_count};
+ghost use Rattle.safe_bound.specs.Premises.{AreCuts};
+
+use crate::*;
+use ip_core::{Bounds, List, Model, ModelParts, Name, OutOfMemory, Row, Term, Text};
+use safe_bound::MAX_MULTIPLIER;
+use std::alloc::Global;
+use std::test::Fail;
+use work_stamp::NoPulse;
+
+/// A model in plain numbers: costs, the two sides of the root box, and rows with a coefficient for each column.
+#[derive(Clone, Copy)]
+struct Plain<'a> {
+    costs: &'a [i64],
+    lows: &'a [i64],
+    highs: &'a [i64],
+    rows: &'a [(&'a [i64], i64)],
+}
+
+fn text(alloc: Global, bytes: &[u8]) -> Result<Text, OutOfMemory> {
+    let mut text = Text::new(alloc);
+    text.extend(bytes)?;
+    Ok(text)
+}
+
+fn rows(alloc: Global, plain: &[(&[i64], i64)]) -> Result<List<Row>, OutOfMemory> {
+    let mut rows = List::new(alloc);
+    for &(coefs, least) in plain {
+        let mut terms = List::new(alloc);
+        let mut col = 0u32;
+        for &coef in coefs {
+            if coef != 0 {
+                terms.push(Term { col, coef })?;
+            }
+            col = col.wrapping_add(1);
+        }
+        rows.push(Row { terms, least })?;
+    }
+    Ok(rows)
+}
+
+fn model(alloc: Global, plain: Plain) -> Result<Model, Fail> {
+    if plain.lows.len() > 9 {
+        return Err("too many columns".into());
+    }
+    let mut cols = List::new(alloc);
+    for _ in plain.costs {
+        cols.push(Name::of(text(alloc, b"x")?).ok_or("a name")?)?;
+    }
+    let lows = List::of(Vec::from_slice(alloc, plain.lows)?);
+    let highs = List::of(Vec::from_slice(alloc, plain.highs)?);
+    let parts = ModelParts {
+        name: Name::of(text(alloc, b"T")?).ok_or("a name")?,
+        cols,
+        costs: List::of(Vec::from_slice(alloc, plain.costs)?),
+        constant: 0,
+        decimals: 0,
+        maximise: false,
+        root: Bounds::of(lows, highs).ok_or("a box")?,
+        rows: rows(alloc, plain.rows)?,
+    };
+    Ok(Model::of(parts).ok_or("a model")?)
+}
+
+/// The ascent over the root box.
+#[tactic(auto, using(crate::proofs::AscentWork::ascent_work_allowed))]
+fn ascent_of(alloc: Global, model: &Model, cuts: &[Row]) -> Result<Ascent, OutOfMemory>
+    requires cuts { AreCuts model.now cuts.now }
+    requires few { term_count cuts.now ≤ 65536 }
+{
+    let _limits = model.parts();
+    let mut pulse = NoPulse::new();
+    ascend(alloc, model, cuts, model.root(), &mut pulse)
+}
+
+/// Whether an ascent has this multiplier for its one row, this bound, value of its one column, and work.
+fn is_found(found: &Ascent, mults: &[u64], bound: i128, values: &[i64], work: u64) -> bool {
+    found.mults.as_slice() == mults
+        && found.bound == bound
+        && found.point.values() == values
+        && found.work == work
+}
+
+/// The least of x in 0 to 5 with 2x >= 3.
+const SINGLE: Plain<'static> = Plain {
+    costs: &[1],
+    lows: &[0],
+    highs: &[5],
+    rows: &[(&[2], 3)],
+};
+
+/// The least of x in 0 to 1.
+const NO_ROWS: Plain<'static> = Plain {
+    costs: &[1],
+    lows: &[0],
+    highs: &[1],
+    rows: &[],
+};
+
+/// 2x + 2y + 2z = 3 in 0 to 1, without costs.
+const EVEN: Plain<'static> = Plain {
+    costs: &[0, 0, 0],
+    lows: &[0, 0, 0],
+    highs: &[1, 1, 1],
+    rows: &[(&[2, 2, 2], 3), (&[-2, -2, -2], -3)],
+};
+
+/// x in 0 to 5 is never 10, so the multiplier climbs by 2,048 in each of the 64 rounds.
+const HOPELESS: Plain<'static> = Plain {
+    costs: &[1],
+    lows: &[0],
+    highs: &[5],
+    rows: &[(&[1], 10)],
+};
+
+/// A cost of 2^40: the first step size and the multiplier are held at 2^40.
+const COSTLY: Plain<'static> = Plain {
+    costs: &[1_099_511_627_776],
+    lows: &[0],
+    highs: &[1],
+    rows: &[(&[1], 2)],
+};
+
+#[test]
+fn climbs_one_row(rt: HostRuntime) -> Result<(), Fail> {
+    let alloc = rt.alloc();
+    let found = ascent_of(alloc, &model(alloc, SINGLE)?, &[])?;
+    assert!(rt; is_found(&found, &[512], 2, &[0], 52));
+    let found = ascent_of(alloc, &model(alloc, NO_ROWS)?, &[])?;
+    assert!(rt; is_found(&found, &[], 0, &[0], 12));
+    Ok(())
+}
+
+#[test]
+fn keeps_to_its_limits(rt: HostRuntime) -> Result<(), Fail> {
+    let alloc = rt.alloc();
+    let found = ascent_of(alloc, &model(alloc, EVEN)?, &[])?;
+    assert!(rt; is_found(&found, &[0, 0], 0, &[0, 0, 0], 209));
+    let found = ascent_of(alloc, &model(alloc, HOPELESS)?, &[])?;
+    assert!(rt; is_found(&found, &[131_072], 645, &[5], 256));
+    let found = ascent_of(alloc, &model(alloc, COSTLY)?, &[])?;
+    assert!(rt; is_found(&found, &[1_099_511_627_776], 2_147_483_648, &[0], 168));
+    Ok(())
+}
+
+/// The numerator over dense rows, which may stand twice.
+fn slow_numerator(plain: Plain, mults: &[u64]) -> i128 {
+    let mut sum = 0i128;
+    for ((_, least), mult) in plain.rows.iter().zip(mults) {
+        sum = sum.wrapping_add(i128::from(*mult).wrapping_mul(i128::from(*least)));
+    }
+    for (j, (low, high)) in plain.lows.iter().zip(plain.highs).enumerate() {
+        let mut reduced = i128::from(plain.costs.get(j).copied().unwrap_or(0)).wrapping_mul(1_024);
+        for ((coefs, _), mult) in plain.rows.iter().zip(mults) {
+            let coef = i128::from(coefs.get(j).copied().unwrap_or(0));
+            reduced = reduced.wrapping_sub(coef.wrapping_mul(i128::from(*mult)));
+        }
+        let at_low = reduced.wrapping_mul(i128::from(*low));
+        let at_high = reduced.wrapping_mul(i128::from(*high));
+        sum = sum.wrapping_add(if at_high < at_low { at_high } else { at_low });
+    }
+    sum
+}
+
+/// A row's next multiplier, found from the last candidate to the first.
+fn slow_choice(
+    alloc: Global,
+    plain: Plain,
+    mults: &[u64],
+    i: usize,
+    step_size: u64,
+) -> Result<u64, Fail> {
+    let own = mults.get(i).copied().unwrap_or(0);
+    let raised = own.saturating_add(step_size).min(MAX_MULTIPLIER);
+    let mut best = None;
+    for candidate in [0, own.saturating_sub(step_size), raised, own] {
+        let mut tried = Vec::from_slice(alloc, mults)?;
+        if let Some(place) = tried.get_mut(i) {
+            *place = candidate;
+        }
+        let worth = slow_numerator(plain, &tried);
+        best = match best {
+            Some((greatest, kept)) if greatest > worth => Some((greatest, kept)),
+            _ => Some((worth, candidate)),
+        };
+    }
+    Ok(best.map_or(0, |(_, kept)| kept))
+}
+
+/// The multipliers of an ascent and its rounds.
+fn slow_ascent(alloc: Global, plain: Plain) -> Result<(Vec<u64>, u64), Fail> {
+    let greatest = plain
+        .costs
+        .iter()
+        .map(|cost| cost.unsigned_abs())
+        .max()
+        .unwrap_or(0);
+    let mut step_size = greatest
+        .saturating_add(1)
+        .saturating_mul(1_024)
+        .min(MAX_MULTIPLIER);
+    let mut mults = vec![in alloc; 0u64; plain.rows.len()]?;
+    let mut rounds = 0u64;
+    for _ in 0..64 {
+        if step_size == 0 {
+            break;
+        }
+        let before = mults.clone()?;
+        for i in 0..before.len() {
+            let next = slow_choice(alloc, plain, &mults, i, step_size)?;
+            if let Some(place) = mults.get_mut(i) {
+                *place = next;
+            }
+        }
+        if mults == before {
+            step_size /= 2;
+        }
+        rounds = rounds.wrapping_add(1);
+    }
+    Ok((mults, rounds))
+}
+
+/// Whether the multipliers and the work are the slow ones; `terms` is the number of terms of all rows.
+fn agrees(alloc: Global, plain: Plain, terms: u64) -> Result<bool, Fail> {
+    let found = ascent_of(alloc, &model(alloc, plain)?, &[])?;
+    let (mults, rounds) = slow_ascent(alloc, plain)?;
+    let work = rounds.wrapping_mul(terms.wrapping_mul(3).wrapping_add(1));
+    Ok(found.mults.as_slice() == mults.as_slice() && found.work == work)
+}
+
+/// Two columns from -1 to 4 and from 1 to 3, and two rows.
+const PAIR: Plain<'static> = Plain {
+    costs: &[2, -3],
+    lows: &[-1, 1],
+    highs: &[4, 3],
+    rows: &[(&[1, 2], 3), (&[-1, 1], -2)],
+};
+
+/// Three columns from 0 to 3, to be kept within 5, 11 and 8.
+const PACKED: Plain<'static> = Plain {
+    costs: &[-5, -4, -3],
+    lows: &[0, 0, 0],
+    highs: &[3, 3, 3],
+    rows: &[
+        (&[-2, -3, -1], -5),
+        (&[-4, -1, -2], -11),
+        (&[-3, -4, -2], -8),
+    ],
+};
+
+/// The first column is empty.
+const EMPTY: Plain<'static> = Plain {
+    costs: &[1, 5],
+    lows: &[4, -2],
+    highs: &[1, 7],
+    rows: &[(&[3, 0], 1), (&[1, -1], -9)],
+};
+
+#[test]
+fn agrees_with_slow_climbs(rt: HostRuntime) -> Result<(), Fail> {
+    let alloc = rt.alloc();
+    assert!(rt; agrees(alloc, PAIR, 4)?);
+    assert!(rt; agrees(alloc, PACKED, 9)?);
+    assert!(rt; agrees(alloc, EMPTY, 3)?);
+    assert!(rt; agrees(alloc, HOPELESS, 1)?);
+    Ok(())
+}
+
+/// The row 2x >= 3 stands twice: the first takes all, and the second nothing.
+#[test]
+fn climbs_with_cuts(rt: HostRuntime) -> Result<(), Fail> {
+    let alloc = rt.alloc();
+    let model = model(alloc, SINGLE)?;
+    let _limits = model.parts();
+    let found = ascent_of(alloc, &model, model.rows())?;
+    assert!(rt; is_found(&found, &[512, 0], 2, &[0], 91));
+    Ok(())
+}
+
+#[test]
+fn keeps_its_laws(_rt: HostRuntime) -> Result<(), Fail> {
+    no_row_lowers();
+    no_round_lowers();
+    Ok(())
+}

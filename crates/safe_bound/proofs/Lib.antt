@@ -1,0 +1,10 @@
+pub mod Weighted
+pub mod Reaching
+pub mod Safety
+pub mod Sizes
+pub mod Lowering
+pub mod Shares
+pub mod Columns
+pub mod Smallness
+pub mod Reducing
+pub mod Examples
