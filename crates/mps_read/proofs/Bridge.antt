@@ -1,70 +1,60 @@
-use Rattle.std.proofs.Common.{◌≡◌, ◌∙◌, ℕ, ◌+◌, ◌&&◌, List, [], ◌∷◌, refl, ap, if◌then◌else◌}
-use Rattle.mps_read.specs.Lines.{whole_lines}
-use Rattle.mps_read.specs.Forms.{Form, Title, RowsHead, RowLine, ColumnsHead, IntegersBegin, Entry, IntegersEnd, RhsHead, RightSide, BoundsHead, BoundLine, End, Stray, Line, Single, Double, line_of}
-use Rattle.mps_read.specs.Facts.{place_of}
-use Rattle.mps_read.specs.Rules.{is_allowed, is_line_allowed, with_line}
-use Rattle.mps_read.specs.Parts.{parts_of}
-use Rattle.mps_read.specs.Readings.{Reading, Read, RefusedAt, is_last, judge, reading}
-use Rattle.mps_read.specs.Steps.{may_follow, may_come, step, after_line, run, draft_of}
+use Rattle.std.proofs.Common.{◌≡◌, ◌∙◌, ℕ, ◌+◌, List, [], ◌∷◌, Some, None, refl, ap}
+use Rattle.mps_read.specs.Lines.{lines_of}
+use Rattle.mps_read.specs.Forms.{Form, Blank, Spoilt, Head, UnknownHead, Stray, Miscounted, SenseLine, FreeRow, KeptRow, UntypedRow, Marker, UnknownMarker, Entries, Values, BoundLine, UntypedBound, form_of, is_end}
+use Rattle.mps_read.specs.Facts.{section_of, has_sense_line_of, is_used, rhs_of, ranges_of, bounds_of}
+use Rattle.mps_read.specs.Kinds.{kind_of}
+use Rattle.mps_read.specs.Readings.{Read, outcome, model_of, draft_of, judge, reading}
+use Rattle.mps_read.specs.Steps.{after, run}
+use Rattle.mps_read.specs.declared.section.Section.TheVariants.{Name, Objsense, Rows, Columns, Rhs, Ranges, Bounds, Endata}
+use Rattle.mps_read.specs.declared.section.ValueKind.TheVariants.{Side, Range}
 use Rattle.mps_read.specs.declared.draft.Draft.{Draft}
-
--- the draft allows what the rules allow
-same_rule : (before : List Form) (f : Form) → may_follow (draft_of before) f ≡ is_allowed before f
-same_rule before (Title name) = refl
-same_rule before RowsHead = refl
-same_rule before (RowLine kind name) = refl
-same_rule before ColumnsHead = refl
-same_rule before IntegersBegin = refl
-same_rule before (Entry column row value) = refl
-same_rule before IntegersEnd = refl
-same_rule before RhsHead = refl
-same_rule before (RightSide set row value) = refl
-same_rule before BoundsHead = refl
-same_rule before (BoundLine set column high) = refl
-same_rule before End = refl
-same_rule before Stray = refl
+use Rattle.mps_read.proofs.Truths.{by_case}
 
 -- a step of the draft is the draft with one more form
-same_step : (before : List Form) (f : Form) → step (draft_of before) f ≡ draft_of (f ∷ before)
-same_step before (Title name) = refl
-same_step before RowsHead = refl
-same_step before (RowLine kind name) = refl
-same_step before ColumnsHead = refl
-same_step before IntegersBegin = refl
-same_step before (Entry column row value) = refl
-same_step before IntegersEnd = refl
-same_step before RhsHead = refl
-same_step before (RightSide set row value) = refl
-same_step before BoundsHead = refl
-same_step before (BoundLine set column high) = refl
-same_step before End = refl
+same_step : (before : List Form) (f : Form) → after (draft_of before) f ≡ draft_of (f ∷ before)
+same_step before Blank = refl
+same_step before Spoilt = refl
+same_step before (Head Name word) = refl
+same_step before (Head Objsense word) = refl
+same_step before (Head Rows word) = refl
+same_step before (Head Columns word) = refl
+same_step before (Head Rhs word) = refl
+same_step before (Head Ranges word) = refl
+same_step before (Head Bounds word) = refl
+same_step before (Head Endata word) = refl
+same_step before UnknownHead = refl
 same_step before Stray = refl
-
--- the same of whole lines
-same_line : (before : List Form) (line : Line) → may_come (draft_of before) line ≡ is_line_allowed before line
-same_line before (Single f) = same_rule before f
-same_line before (Double f g) =
-    ap (λ p. p && may_follow (step (draft_of before) f) g) (same_rule before f)
-    ∙ ap (λ d. is_allowed before f && may_follow d g) (same_step before f)
-    ∙ ap (λ p. is_allowed before f && p) (same_rule (f ∷ before) g)
-
-same_after : (before : List Form) (line : Line) → after_line (draft_of before) line ≡ draft_of (with_line before line)
-same_after before (Single f) = same_step before f
-same_after before (Double f g) = ap (λ d. step d g) (same_step before f) ∙ same_step (f ∷ before) g
+same_step before Miscounted = refl
+same_step before (SenseLine word) = refl
+same_step before (FreeRow name) = refl
+same_step before (KeptRow kind name) = refl
+same_step before UntypedRow = refl
+same_step before (Marker is_integer) = refl
+same_step before UnknownMarker = refl
+same_step before (Entries column first None) = refl
+same_step before (Entries column first (Some second)) = refl
+same_step before (Values Side set first None) =
+    by_case (is_used (rhs_of before).set set) _ (λ h. rw h refl) (λ h. rw h refl)
+same_step before (Values Side set first (Some second)) =
+    by_case (is_used (rhs_of before).set set) _ (λ h. rw h refl) (λ h. rw h refl)
+same_step before (Values Range set first None) =
+    by_case (is_used (ranges_of before).set set) _ (λ h. rw h refl) (λ h. rw h refl)
+same_step before (Values Range set first (Some second)) =
+    by_case (is_used (ranges_of before).set set) _ (λ h. rw h refl) (λ h. rw h refl)
+same_step before (BoundLine kind set column numeral) =
+    by_case (is_used (bounds_of before).set set) _ (λ h. rw h refl) (λ h. rw h refl)
+same_step before UntypedBound = refl
 
 -- the reader's way over the lines gives what judging them gives
 runs : (lines : List (List ℕ)) (number : ℕ) (before : List Form) → run (draft_of before) number lines ≡ judge number before lines
 runs [] number before = refl
-runs (text ∷ rest) number before =
-    let line : Line = line_of (place_of before) text in
-    let stop : Reading = RefusedAt number in
-    let read : Reading = Read (parts_of before) in
-    let next : run (after_line (draft_of before) line) (number + 1) rest ≡ judge (number + 1) (with_line before line) rest =
-    ap (λ d. run d (number + 1) rest) (same_after before line) ∙ runs rest (number + 1) (with_line before line)
+runs (line ∷ rest) number before =
+    let form : Form = form_of (section_of before) (has_sense_line_of before) line in
+    let next : run (after (draft_of before) form) (number + 1) rest ≡ judge (number + 1) (form ∷ before) rest =
+    ap (λ d. run d (number + 1) rest) (same_step before form) ∙ runs rest (number + 1) (form ∷ before)
     in
-    ap (λ p. if p then (if is_last line then read else run (after_line (draft_of before) line) (number + 1) rest) else stop) (same_line before line)
-    ∙ ap (λ z. if is_line_allowed before line then (if is_last line then read else z) else stop) next
+    ap (outcome (kind_of (draft_of before) form) (is_end form) number (Read (model_of (draft_of before)))) next
 
 -- from the first line on
-pub begins : (d : Draft) (bytes : List ℕ) → d ≡ draft_of [] → run d 1 (whole_lines bytes) ≡ reading bytes
-begins d bytes is = ap (λ e. run e 1 (whole_lines bytes)) is ∙ runs (whole_lines bytes) 1 []
+pub begins : (d : Draft) (bytes : List ℕ) → d ≡ draft_of [] → run d 1 (lines_of bytes) ≡ reading bytes
+begins d bytes is = ap (λ e. run e 1 (lines_of bytes)) is ∙ runs (lines_of bytes) 1 []

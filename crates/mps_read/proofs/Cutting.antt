@@ -1,51 +1,86 @@
-use Rattle.std.proofs.Common.{◌≡◌, ℕ, false, ◌==◌, List, [], ◌∷◌, ◌++◌, refl, length}
+use Rattle.std.proofs.Common.{◌≡◌, ℕ, ◌<◌, ◌≤◌, true, false, ◌==◌, List, [], ◌∷◌, ◌++◌, refl, length, arith, ap, sym, ◌∙◌, ◌+◌, ◌-◌, take, drop, get_or}
 use Rattle.std.specs.List.{list_any}
-use Rattle.mps_read.specs.Lines.{whole_lines, pieces, fields}
+use Rattle.std.proofs.lemmas.List.{length-append, take-append-drop, drop_more, length-drop, take_rest, take_all}
+use Rattle.mps_read.specs.Lines.{lines_of, with_byte, pieces, fields, is_separator}
+use Rattle.std.proofs.lemmas.Bool.{true≢false}
 use Rattle.mps_read.proofs.Truths.{or_false}
 
 -- a line up to a line feed stands before the lines of the rest
-pub whole_lines-cut : (x rest : List ℕ) → list_any (λ b. b == 10) x ≡ false → whole_lines (x ++ 10 ∷ rest) ≡ x ∷ whole_lines rest
-whole_lines-cut [] rest h = refl
-whole_lines-cut (b ∷ x) rest h =
+pub lines-cut : (x rest : List ℕ) → list_any (λ b. b == 10) x ≡ false → lines_of (x ++ 10 ∷ rest) ≡ x ∷ lines_of rest
+lines-cut [] rest h = refl
+lines-cut (b ∷ x) rest h =
     let p = or_false (b == 10) (list_any (λ c. c == 10) x) h in
     let e : (b == 10) ≡ false = p.0 in
-    let more : whole_lines (x ++ 10 ∷ rest) ≡ x ∷ whole_lines rest = whole_lines-cut x rest p.1 in
+    let more : lines_of (x ++ 10 ∷ rest) ≡ x ∷ lines_of rest = lines-cut x rest p.1 in
     rw (e, more)
 
--- a text without a line feed has no whole line
-pub whole_lines-none : (x : List ℕ) → list_any (λ b. b == 10) x ≡ false → whole_lines x ≡ []
-whole_lines-none [] h = refl
-whole_lines-none (b ∷ x) h =
-    let p = or_false (b == 10) (list_any (λ c. c == 10) x) h in
+-- bytes without a line feed are one line
+pub lines-last : (b : ℕ) (x : List ℕ) → list_any (λ c. c == 10) (b ∷ x) ≡ false → lines_of (b ∷ x) ≡ (b ∷ x) ∷ []
+lines-last b [] h =
+    let p = or_false (b == 10) false h in
     let e : (b == 10) ≡ false = p.0 in
-    let more : whole_lines x ≡ [] = whole_lines-none x p.1 in
-    rw (e, more)
+    rw e refl
+lines-last b (c ∷ x) h =
+    let p = or_false (b == 10) (list_any (λ d. d == 10) (c ∷ x)) h in
+    let e : (b == 10) ≡ false = p.0 in
+    let more : lines_of (c ∷ x) ≡ (c ∷ x) ∷ [] = lines-last c x p.1 in
+    rw e (ap (with_byte b) more)
 
--- the same of the pieces between blanks
-pub pieces-cut : (x rest : List ℕ) → list_any (λ b. b == 32) x ≡ false → pieces (x ++ 32 ∷ rest) ≡ x ∷ pieces rest
-pieces-cut [] rest h = refl
-pieces-cut (b ∷ x) rest h =
-    let p = or_false (b == 32) (list_any (λ c. c == 32) x) h in
-    let e : (b == 32) ≡ false = p.0 in
-    let more : pieces (x ++ 32 ∷ rest) ≡ x ∷ pieces rest = pieces-cut x rest p.1 in
-    rw (e, more)
+-- the same of the pieces between separators
+pub pieces-cut : (x rest : List ℕ) (s : ℕ) → list_any is_separator x ≡ false → is_separator s ≡ true → pieces (x ++ s ∷ rest) ≡ x ∷ pieces rest
+pieces-cut [] rest s h at = rw at refl
+pieces-cut (b ∷ x) rest s h at =
+    let p = or_false (is_separator b) (list_any is_separator x) h in
+    let e : is_separator b ≡ false = p.0 in
+    let more : pieces (x ++ s ∷ rest) ≡ x ∷ pieces rest = pieces-cut x rest s p.1 at in
+    rw e (ap (with_byte b) more)
 
-pub pieces-none : (x : List ℕ) → list_any (λ b. b == 32) x ≡ false → pieces x ≡ x ∷ []
+pub pieces-none : (x : List ℕ) → list_any is_separator x ≡ false → pieces x ≡ x ∷ []
 pieces-none [] h = refl
 pieces-none (b ∷ x) h =
-    let p = or_false (b == 32) (list_any (λ c. c == 32) x) h in
-    let e : (b == 32) ≡ false = p.0 in
+    let p = or_false (is_separator b) (list_any is_separator x) h in
+    let e : is_separator b ≡ false = p.0 in
     let more : pieces x ≡ x ∷ [] = pieces-none x p.1 in
-    rw (e, more)
+    rw e (ap (with_byte b) more)
 
 -- a piece that isn't empty is a field
-pub fields-filled : (s x rest : List ℕ) → s ≡ x ++ 32 ∷ rest → list_any (λ b. b == 32) x ≡ false → (length x == 0) ≡ false → fields s ≡ x ∷ fields rest
-fields-filled s x rest is h filled =
-    let e : pieces (x ++ 32 ∷ rest) ≡ x ∷ pieces rest = pieces-cut x rest h in
-    rw (is, e, filled)
+pub fields-filled : (s x rest : List ℕ) → pieces s ≡ x ∷ pieces rest → (length x == 0) ≡ false → fields s ≡ x ∷ fields rest
+fields-filled s x rest is filled = rw (is, filled) refl
 
--- and so is the last one
-pub fields-last : (x : List ℕ) → list_any (λ b. b == 32) x ≡ false → (length x == 0) ≡ false → fields x ≡ x ∷ []
-fields-last x h filled =
-    let e : pieces x ≡ x ∷ [] = pieces-none x h in
-    rw (e, filled)
+-- and an empty one isn't
+pub fields-empty : (s x rest : List ℕ) → pieces s ≡ x ∷ pieces rest → (length x == 0) ≡ true → fields s ≡ fields rest
+fields-empty s x rest is empty = rw (is, empty) refl
+
+-- the last piece
+pub fields-last : (x : List ℕ) → pieces x ≡ x ∷ [] → (length x == 0) ≡ false → fields x ≡ x ∷ []
+fields-last x is filled = rw (is, filled) refl
+
+pub fields-none : (x : List ℕ) → pieces x ≡ x ∷ [] → (length x == 0) ≡ true → fields x ≡ []
+fields-none x is empty = rw (is, empty) refl
+
+-- what a line is, cut at the place of a separator
+split_at : (line : List ℕ) (place : ℕ) → place < length line → line ≡ take place line ++ get_or line place 0 ∷ drop (place + 1) line
+split_at line place within = sym (take-append-drop place line) ∙ ap (λ r. take place line ++ r) (drop_more line place 0 within)
+
+-- the pieces of a line whose first separator is at a place
+pub pieces-at : (line : List ℕ) (place : ℕ) → place < length line → list_any is_separator (take place line) ≡ false → is_separator (get_or line place 0) ≡ true → (pieces line ≡ take place line ∷ pieces (take (length line - (place + 1)) (drop (place + 1) line))) × (length (take (length line - (place + 1)) (drop (place + 1) line)) < length line)
+pieces-at line place within before at =
+    let long : length (drop (place + 1) line) ≡ length line - (place + 1) = length-drop (place + 1) line in
+    let whole : take (length line - (place + 1)) (drop (place + 1) line) ≡ drop (place + 1) line = take_rest line (place + 1) in
+    let cut : pieces line ≡ take place line ∷ pieces (drop (place + 1) line) =
+    ap pieces (split_at line place within) ∙ pieces-cut (take place line) (drop (place + 1) line) (get_or line place 0) before at in
+    rw whole (cut, omega (arith, long))
+
+-- the line and the lines after it
+pub lines-at : (bytes line rest : List ℕ) → (bytes ≡ line ++ 10 ∷ rest) × (list_any (λ b. b == 10) line ≡ false) → (lines_of bytes ≡ line ∷ lines_of rest) × (length rest < length bytes) × (length line ≤ length bytes)
+lines-at bytes line rest (is, plain) =
+    let long : length bytes ≡ length line + length (10 ∷ rest) = ap length is ∙ length-append line (10 ∷ rest) in
+    (ap lines_of is ∙ lines-cut line rest plain, omega (arith, long), omega (arith, long))
+
+pub lines-end : (bytes : List ℕ) → (length bytes == 0) ≡ false → list_any (λ b. b == 10) bytes ≡ false → (lines_of bytes ≡ bytes ∷ []) × (0 < length bytes) × (length bytes ≤ length bytes)
+lines-end [] filled plain = absurd (true≢false filled)
+lines-end (b ∷ bytes) filled plain = (lines-last b bytes plain, omega arith, omega arith)
+
+-- a line whose test never came true
+pub pieces-whole : (line : List ℕ) (place : ℕ) → length line ≤ place → list_any is_separator (take place line) ≡ false → pieces line ≡ line ∷ []
+pieces-whole line place past before = pieces-none line (ap (list_any is_separator) (sym (take_all place line past)) ∙ before)

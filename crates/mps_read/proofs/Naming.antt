@@ -1,9 +1,9 @@
-use Rattle.std.proofs.Common.{◌≡◌, ◌∙◌, ℕ, ◌<◌, ◌≤◌, ◌+◌, Bool, true, false, not, cond, ◌||◌, List, [], ◌∷◌, ◌++◌, map, length, get_or, take, refl, sym, ap, subst, arith, Option, Some, None, nat_lt, if◌then◌else◌, MatchOption}
-use Rattle.std.specs.List.{list_any, position_or_len, position, All}
+use Rattle.std.proofs.Common.{◌≡◌, ◌∙◌, ℕ, ◌<◌, ◌≤◌, ◌+◌, Bool, true, false, not, cond, ◌||◌, List, [], ◌∷◌, ◌++◌, map, length, refl, sym, ap, arith, Option, Some, None, nat_lt, if◌then◌else◌, MatchOption}
+use Rattle.std.specs.List.{list_any, position_or_len, position}
 use Rattle.std.specs.Str.{bytes_eq}
 use Rattle.std.proofs.lemmas.Bool.Decides.{nat_tests}
-use Rattle.std.proofs.lemmas.List.{take_more, map-append, get_or-map, length-map}
-use Rattle.mps_read.specs.Facts.{is_among, place_among, with_name}
+use Rattle.std.proofs.lemmas.List.{map-append, length-map}
+use Rattle.mps_read.specs.Names.{is_among, place_among, with_name}
 
 module _ {A B : Type 0} (f : A → B) (p : B → Bool) where
   -- a test of images
@@ -67,19 +67,3 @@ added {A} f keys after owned name names is owned_is view =
     let any : is_among (f owned) (map f keys) ≡ list_any (λ k. bytes_eq (f owned) (f k)) keys = list_any_images f (bytes_eq (f owned)) keys in
     let here : map f after ≡ with_name (f owned) (map f keys) = rw (is, any) (added_by f (list_any (λ k. bytes_eq (f owned) (f k)) keys) keys owned) in
     here ∙ ap (λ n. with_name n (map f keys)) owned_is ∙ ap (with_name name) view
-
--- a fact of each name at a key
-pub at_key : {A : Type 0} (P : List ℕ → Type 0) (f : A → List ℕ) (keys : List A) (names : List (List ℕ)) (i : ℕ) (key : A) → map f keys ≡ names → All P names → i < length keys → key ≡ get_or keys i key → P (f key)
-at_key P f keys names i key view all within is =
-    let here : get_or (map f keys) i (f key) ≡ f key = get_or-map f keys i key (f key) within ∙ ap f (sym is) in
-    let long : length (map f keys) ≡ length keys = length-map keys f in
-    let all_images : All P (map f keys) = subst (All P) (sym view) all in
-    subst P here (all_images i (f key) (rw long within))
-
--- one more name of a front
-pub front_more : {A : Type 0} (f : A → List ℕ) (keys : List A) (names : List (List ℕ)) (i : ℕ) (key : A) → map f keys ≡ names → i < length keys → key ≡ get_or keys i key → take (i + 1) names ≡ take i names ++ f key ∷ []
-front_more f keys names i key view within is =
-    let here : get_or (map f keys) i (f key) ≡ f key = get_or-map f keys i key (f key) within ∙ ap f (sym is) in
-    let long : length (map f keys) ≡ length keys = length-map keys f in
-    let more : take (i + 1) (map f keys) ≡ take i (map f keys) ++ get_or (map f keys) i (f key) ∷ [] = take_more (map f keys) i (f key) (rw long within) in
-    rw (← view) (more ∙ ap (λ n. take i (map f keys) ++ n ∷ []) here)

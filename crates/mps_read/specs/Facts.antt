@@ -1,114 +1,98 @@
-use Rattle.std.specs.Prelude.{ℕ, Bool, List, [], ◌∷◌, ◌++◌, Option, Some, None, ℤ, slice_set, slice_index_or, if◌then◌else◌}
-use Rattle.std.specs.List.{list_any, position_or_len}
+-- What the lines so far say of the header and of sets. They stand newest first.
+use Rattle.std.specs.Prelude.{ℕ, Bool, true, false, ◌||◌, List, [], ◌∷◌, Option, Some, None, if◌then◌else◌, codes}
 use Rattle.std.specs.Str.{bytes_eq}
-use Rattle.mps_read.specs.Forms.{Form, Title, RowsHead, RowLine, ColumnsHead, IntegersBegin, Entry, IntegersEnd, RhsHead, RightSide, BoundsHead, BoundLine, End, Stray}
-use Rattle.mps_read.specs.declared.place.Place.{Place}
-use Rattle.mps_read.specs.declared.place.Place.TheVariants.{Start, Named, Rows, MoreRows, Columns, Integers, Closed, Rhs, Bounds}
-use Rattle.mps_read.specs.declared.row.RowKind.TheVariants.{Free}
-use Rattle.mps_read.specs.declared.row.RowKind.{RowKind}
-use Rattle.mps_read.specs.declared.row.RowLimit.{RowLimit}
-use Rattle.mps_read.specs.declared.row.Coefficient.{Coefficient}
+use Rattle.mps_read.specs.Forms.{Form, Pair, Head, SenseLine, Values, BoundLine}
+use Rattle.mps_read.specs.declared.section.Section.{Section}
+use Rattle.mps_read.specs.declared.section.Section.TheVariants.{Name, Objsense, Rhs, Ranges, Bounds}
+use Rattle.mps_read.specs.declared.section.ValueKind.{ValueKind}
+use Rattle.mps_read.specs.declared.section.ValueKind.TheVariants.{Side, Range}
+use Rattle.mps_read.specs.declared.draft.SetUse.{SetUse}
 
--- whether a name is among some
-abbrev pub is_among : List ℕ → List (List ℕ) → Bool
-is_among name names = list_any (bytes_eq name) names
+-- a value after the first pair, and after the second if there is one
+abbrev pub after_pairs : {A : Type 0} → (Pair → A → A) → Pair → Option Pair → A → A
+after_pairs change first None value = change first value
+after_pairs change first (Some second) value = change second (change first value)
 
--- the place of a name among some, or their number
-abbrev pub place_among : List ℕ → List (List ℕ) → ℕ
-place_among name names = position_or_len (bytes_eq name) names
+-- The header.
 
--- a list with one more item at its end, unless the item's name is known
-abbrev pub extended : {A : Type 0} → Bool → A → List A → List A
-extended known item items = if known then items else items ++ item ∷ []
+-- the section of the next line
+abbrev pub section_of : List Form → Option Section
+section_of [] = None
+section_of (Head section word ∷ before) = Some section
+section_of (_ ∷ before) = section_of before
 
--- names with one more at their end, where it isn't among them
-abbrev pub with_name : List ℕ → List (List ℕ) → List (List ℕ)
-with_name name names = if is_among name names then names else names ++ name ∷ []
-
--- What the lines so far say. What they say stands newest first.
-
--- the place in the file after a line; no line is read after the last two
-abbrev pub place_after : Form → Place
-place_after (Title name) = Named
-place_after RowsHead = Rows
-place_after (RowLine kind name) = MoreRows
-place_after ColumnsHead = Columns
-place_after IntegersBegin = Integers
-place_after (Entry column row value) = Integers
-place_after IntegersEnd = Closed
-place_after RhsHead = Rhs
-place_after (RightSide set row value) = Rhs
-place_after BoundsHead = Bounds
-place_after (BoundLine set column high) = Bounds
-place_after End = Bounds
-place_after Stray = Bounds
-
-abbrev pub place_of : List Form → Place
-place_of [] = Start
-place_of (form ∷ before) = place_after form
+-- whether the data line of the sense came
+abbrev pub has_sense_line_of : List Form → Bool
+has_sense_line_of [] = false
+has_sense_line_of (SenseLine word ∷ before) = true
+has_sense_line_of (_ ∷ before) = has_sense_line_of before
 
 -- the model's name
 abbrev pub name_of : List Form → List ℕ
 name_of [] = []
-name_of (Title name ∷ before) = name
+name_of (Head Name word ∷ before) = word
 name_of (_ ∷ before) = name_of before
 
--- the names of the rows in order, that of the objective first
-abbrev pub rows_of : List Form → List (List ℕ)
-rows_of [] = []
-rows_of (RowLine kind name ∷ before) = with_name name (rows_of before)
-rows_of (_ ∷ before) = rows_of before
+-- whether a word says to maximise or to minimise
+abbrev pub sense_named : List ℕ → Option Bool
+sense_named word =
+    if bytes_eq word (codes "MAX") || bytes_eq word (codes "MAXIMIZE") then Some true
+    else if bytes_eq word (codes "MIN") || bytes_eq word (codes "MINIMIZE") then Some false
+    else None
 
--- a row of some kind without a right-hand side
-abbrev pub unlimited : RowKind → RowLimit
-unlimited kind = record { kind = kind; side = None }
+-- whether to maximise, where the lines say it
+abbrev pub maximise_of : List Form → Option Bool
+maximise_of [] = None
+maximise_of (Head Objsense word ∷ before) = sense_named word
+maximise_of (SenseLine word ∷ before) = sense_named word
+maximise_of (_ ∷ before) = maximise_of before
 
--- the limit at a place
-abbrev pub limit_at : List RowLimit → ℕ → RowLimit
-limit_at limits place = slice_index_or limits place (unlimited Free)
+-- Sets: the first data line of a section names the set that is used.
 
--- the limits with a right-hand side at a place
-abbrev pub with_side : ℕ → ℤ → List RowLimit → List RowLimit
-with_side place value limits = slice_set limits place (record { kind = (limit_at limits place).kind; side = Some value })
+-- a section that has not begun
+abbrev pub no_set : SetUse
+no_set = record { begun = false; set = None }
 
--- the kind and the right-hand side of each row in order
-abbrev pub limits_of : List Form → List RowLimit
-limits_of [] = []
-limits_of (RowLine kind name ∷ before) = extended (is_among name (rows_of before)) (unlimited kind) (limits_of before)
-limits_of (RightSide set row value ∷ before) = with_side (place_among row (rows_of before)) value (limits_of before)
-limits_of (_ ∷ before) = limits_of before
+-- whether a line of this set is used
+abbrev pub is_used : Option (List ℕ) → List ℕ → Bool
+is_used None set = true
+is_used (Some first) set = bytes_eq set first
 
--- the names of the columns in the order in which they first appear
-abbrev pub columns_of : List Form → List (List ℕ)
-columns_of [] = []
-columns_of (Entry column row value ∷ before) = with_name column (columns_of before)
-columns_of (_ ∷ before) = columns_of before
+-- the section began
+abbrev pub with_head : SetUse → SetUse
+with_head u = record u { begun = true }
 
--- the entries in order, with the places of their rows and columns
-abbrev pub entries_of : List Form → List Coefficient
-entries_of [] = []
-entries_of (Entry column row value ∷ before) =
-    entries_of before ++ record { row = place_among row (rows_of before); col = place_among column (columns_of before); value = value } ∷ []
-entries_of (_ ∷ before) = entries_of before
+-- what is there already, or else the new one
+abbrev pub first_given : Option (List ℕ) → List ℕ → Option (List ℕ)
+first_given None word = Some word
+first_given (Some first) word = Some first
 
--- the upper bound of each column in order, where a line gave one
-abbrev pub bounds_of : List Form → List (Option ℕ)
-bounds_of [] = []
-bounds_of (Entry column row value ∷ before) = extended (is_among column (columns_of before)) None (bounds_of before)
-bounds_of (BoundLine set column high ∷ before) = slice_set (bounds_of before) (place_among column (columns_of before)) (Some high)
+-- the section after a data line of a set
+abbrev pub with_set : List ℕ → SetUse → SetUse
+with_set set u = if is_used u.set set then record u { set = first_given u.set set } else u
+
+-- the section of right-hand sides
+abbrev pub rhs_of : List Form → SetUse
+rhs_of [] = no_set
+rhs_of (Head Rhs word ∷ before) = with_head (rhs_of before)
+rhs_of (Values Side set first second ∷ before) = with_set set (rhs_of before)
+rhs_of (_ ∷ before) = rhs_of before
+
+-- the section of ranges
+abbrev pub ranges_of : List Form → SetUse
+ranges_of [] = no_set
+ranges_of (Head Ranges word ∷ before) = with_head (ranges_of before)
+ranges_of (Values Range set first second ∷ before) = with_set set (ranges_of before)
+ranges_of (_ ∷ before) = ranges_of before
+
+-- the section of bounds
+abbrev pub bounds_of : List Form → SetUse
+bounds_of [] = no_set
+bounds_of (Head Bounds word ∷ before) = with_head (bounds_of before)
+bounds_of (BoundLine kind set column numeral ∷ before) = with_set set (bounds_of before)
 bounds_of (_ ∷ before) = bounds_of before
 
--- the set that the first line of a section names
-abbrev pub first_set : Option (List ℕ) → List ℕ → Option (List ℕ)
-first_set None set = Some set
-first_set (Some first) set = Some first
-
-abbrev pub rhs_set_of : List Form → Option (List ℕ)
-rhs_set_of [] = None
-rhs_set_of (RightSide set row value ∷ before) = first_set (rhs_set_of before) set
-rhs_set_of (_ ∷ before) = rhs_set_of before
-
-abbrev pub bound_set_of : List Form → Option (List ℕ)
-bound_set_of [] = None
-bound_set_of (BoundLine set column high ∷ before) = first_set (bound_set_of before) set
-bound_set_of (_ ∷ before) = bound_set_of before
+-- the section of right-hand sides or that of ranges
+abbrev pub values_of : ValueKind → List Form → SetUse
+values_of Side before = rhs_of before
+values_of Range before = ranges_of before

@@ -1,145 +1,213 @@
-use Rattle.std.specs.Prelude.{ℕ, Bool, not, ◌&&◌, nat_le, List, length, Option, Some, None, ℤ, if◌then◌else◌, codes}
+-- What one line says.
+use Rattle.std.specs.Prelude.{ℕ, Bool, true, false, not, List, [], Option, Some, None, if◌then◌else◌, codes}
 use Rattle.std.specs.List.{list_all}
 use Rattle.std.specs.Str.{bytes_eq}
-use Rattle.mps_read.specs.Lines.{Words, One, Two, Three, Four, Five, words_of, fields, is_data, is_line_byte}
-use Rattle.mps_read.specs.Numerals.{digits, number}
-use Rattle.mps_read.specs.declared.place.Place.{Place}
-use Rattle.mps_read.specs.declared.place.Place.TheVariants.{Start, Named, Rows, MoreRows, Columns, Integers, Closed, Rhs, Bounds}
-use Rattle.mps_read.specs.declared.row.RowKind.{RowKind}
-use Rattle.mps_read.specs.declared.row.RowKind.TheVariants.{Free, AtMost, AtLeast}
+use Rattle.mps_read.specs.Lines.{Words, Zero, One, Two, Three, Four, Five, Many, words_of, fields, has_none, first_word, is_comment, is_data, is_line_byte}
+use Rattle.mps_read.specs.declared.model.RowKind.{RowKind}
+use Rattle.mps_read.specs.declared.model.RowKind.TheVariants.{Less, Greater, Equal}
+use Rattle.mps_read.specs.declared.section.Section.{Section}
+use Rattle.mps_read.specs.declared.section.Section.TheVariants.{Name, Objsense, Rows, Columns, Rhs, Ranges, Bounds, Endata}
+use Rattle.mps_read.specs.declared.section.ValueKind.{ValueKind}
+use Rattle.mps_read.specs.declared.section.ValueKind.TheVariants.{Side, Range}
+use Rattle.mps_read.specs.declared.section.BoundKind.{BoundKind}
+use Rattle.mps_read.specs.declared.section.BoundKind.TheVariants.{Lower, Upper, Fixed, IntegerLower, IntegerUpper, Free, NoLower, NoUpper, Binary}
 
--- what one line says, or one pair of it
+-- a row's name and a numeral, as they stand
+pub record Pair : Type 0 where
+  pub row : List ℕ
+  pub numeral : List ℕ
+
+-- what one line says, by the section that it stands in
 pub data Form : Type 0 where
-  Title : (name : List ℕ) → Form
-  RowsHead : Form
-  RowLine : (kind : RowKind) (name : List ℕ) → Form
-  ColumnsHead : Form
-  IntegersBegin : Form
-  Entry : (column row : List ℕ) (value : ℤ) → Form
-  IntegersEnd : Form
-  RhsHead : Form
-  RightSide : (set row : List ℕ) (value : ℤ) → Form
-  BoundsHead : Form
-  BoundLine : (set column : List ℕ) (high : ℕ) → Form
-  End : Form
+  -- a comment, or a line without fields
+  Blank : Form
+  -- a byte that no line may hold
+  Spoilt : Form
+  -- a section line, with its second field or the empty text
+  Head : (section : Section) (word : List ℕ) → Form
+  UnknownHead : Form
+  -- a data line where none may stand
   Stray : Form
+  -- a data line of another number of fields
+  Miscounted : Form
+  SenseLine : (word : List ℕ) → Form
+  -- a row without right-hand side: the objective is the first of these
+  FreeRow : (name : List ℕ) → Form
+  KeptRow : (kind : RowKind) (name : List ℕ) → Form
+  UntypedRow : Form
+  -- new columns are integer from here on, or no more
+  Marker : (is_integer : Bool) → Form
+  UnknownMarker : Form
+  Entries : (column : List ℕ) (first : Pair) (second : Option Pair) → Form
+  Values : (kind : ValueKind) (set : List ℕ) (first : Pair) (second : Option Pair) → Form
+  -- a bound, with the empty text as numeral where its type has none
+  BoundLine : (kind : BoundKind) (set column numeral : List ℕ) → Form
+  UntypedBound : Form
 
--- a line of two pairs says what two lines of one pair each say
-pub data Line : Type 0 where
-  Single : (form : Form) → Line
-  Double : (first second : Form) → Line
+-- the section of a name
+abbrev pub section_named : List ℕ → Option Section
+section_named word =
+    if bytes_eq word (codes "NAME") then Some Name
+    else if bytes_eq word (codes "OBJSENSE") then Some Objsense
+    else if bytes_eq word (codes "ROWS") then Some Rows
+    else if bytes_eq word (codes "COLUMNS") then Some Columns
+    else if bytes_eq word (codes "RHS") then Some Rhs
+    else if bytes_eq word (codes "RANGES") then Some Ranges
+    else if bytes_eq word (codes "BOUNDS") then Some Bounds
+    else if bytes_eq word (codes "ENDATA") then Some Endata
+    else None
 
--- a name has at most eight bytes, each visible
-abbrev pub is_visible : ℕ → Bool
-is_visible b = nat_le 33 b && nat_le b 126
+-- a section line, if its name is known
+abbrev pub known_head : Option Section → List ℕ → Form
+known_head None word = UnknownHead
+known_head (Some section) word = Head section word
 
-abbrev pub is_short_name : List ℕ → Bool
-is_short_name bytes = nat_le (length bytes) 8 && list_all is_visible bytes
+-- the second field of a line, or the empty text
+abbrev pub second_word : Words → List ℕ
+second_word Zero = []
+second_word (One a) = []
+second_word (Two a b) = b
+second_word (Three a b c) = b
+second_word (Four a b c d) = b
+second_word (Five a b c d e) = b
+second_word (Many a b) = b
 
-abbrev pub form_when : Bool → Form → Form
-form_when test form = if test then form else Stray
+-- a section line
+abbrev pub head_form : Words → Form
+head_form words = known_head (section_named (first_word words)) (second_word words)
 
-abbrev pub is_head : Bool → List ℕ → List ℕ → Bool
-is_head data_line field word = not data_line && bytes_eq field word
+-- the data line of the sense: one word
+abbrev pub sense_form : Words → Form
+sense_form (One word) = SenseLine word
+sense_form _ = Miscounted
 
-abbrev pub is_marker : Bool → List ℕ → List ℕ → List ℕ → Bool
-is_marker data_line field kind word = data_line && bytes_eq field (codes "'MARKER'") && bytes_eq kind word
+-- the kind of a row of the model
+abbrev pub row_kind_named : List ℕ → Option RowKind
+row_kind_named word =
+    if bytes_eq word (codes "L") then Some Less
+    else if bytes_eq word (codes "G") then Some Greater
+    else if bytes_eq word (codes "E") then Some Equal
+    else None
 
--- the first line: `NAME` and a name
-abbrev pub title_form : Bool → Words → Form
-title_form data_line (Two head name) = form_when (is_head data_line head (codes "NAME") && is_short_name name) (Title name)
-title_form data_line _ = Stray
+-- a row of the model, if its type is known
+abbrev pub kept_row : Option RowKind → List ℕ → Form
+kept_row None name = UntypedRow
+kept_row (Some kind) name = KeptRow kind name
 
-abbrev pub rows_form : Bool → Words → Form
-rows_form data_line (One head) = form_when (is_head data_line head (codes "ROWS")) RowsHead
-rows_form data_line _ = Stray
+-- a row: its type and its name
+abbrev pub row_form : List ℕ → List ℕ → Form
+row_form kind name = if bytes_eq kind (codes "N") then FreeRow name else kept_row (row_kind_named kind) name
 
-abbrev pub is_row : Bool → List ℕ → List ℕ → List ℕ → Bool
-is_row data_line kind word name = data_line && bytes_eq kind word && is_short_name name
+-- a line of rows: a type and a name
+abbrev pub rows_form : Words → Form
+rows_form (Two kind name) = row_form kind name
+rows_form _ = Miscounted
 
--- the row of the objective: `N` and a name
-abbrev pub objective_form : Bool → Words → Form
-objective_form data_line (Two kind name) = form_when (is_row data_line kind (codes "N") name) (RowLine Free name)
-objective_form data_line _ = Stray
+-- the word that makes a line of columns a marker
+abbrev pub marker_word : List ℕ
+marker_word = codes "'MARKER'"
 
--- a row of at most or of at least, or the section of columns
-abbrev pub more_rows_form : Bool → Words → Form
-more_rows_form data_line (Two kind name) =
-    if is_row data_line kind (codes "L") name
-    then RowLine AtMost name
-    else form_when (is_row data_line kind (codes "G") name) (RowLine AtLeast name)
-more_rows_form data_line (One head) = form_when (is_head data_line head (codes "COLUMNS")) ColumnsHead
-more_rows_form data_line _ = Stray
+-- a marker of either kind
+abbrev pub marker_form : List ℕ → Form
+marker_form word =
+    if bytes_eq word (codes "'INTORG'") then Marker true
+    else if bytes_eq word (codes "'INTEND'") then Marker false
+    else UnknownMarker
 
-abbrev pub begin_form : Bool → Words → Form
-begin_form data_line (Three any field kind) = form_when (is_marker data_line field kind (codes "'INTORG'")) IntegersBegin
-begin_form data_line _ = Stray
+-- a marker of three fields, or a column with one or two pairs
+abbrev pub columns_form : Words → Form
+columns_form (Three column row numeral) =
+    if bytes_eq row marker_word then marker_form numeral else Entries column (record { row = row; numeral = numeral }) None
+columns_form (Five column row numeral row2 numeral2) =
+    if bytes_eq row marker_word then Miscounted
+    else Entries column (record { row = row; numeral = numeral }) (Some (record { row = row2; numeral = numeral2 }))
+columns_form _ = Miscounted
 
--- an entry of a column in a row
-abbrev pub entry_form : Bool → List ℕ → List ℕ → Option ℤ → Form
-entry_form data_line column row None = Stray
-entry_form data_line column row (Some value) = form_when (data_line && is_short_name column && is_short_name row) (Entry column row value)
+-- one or two pairs, after the name of a set or without one
+abbrev pub values_form : ValueKind → Words → Form
+values_form kind (Two row numeral) = Values kind [] (record { row = row; numeral = numeral }) None
+values_form kind (Three set row numeral) = Values kind set (record { row = row; numeral = numeral }) None
+values_form kind (Four row numeral row2 numeral2) =
+    Values kind [] (record { row = row; numeral = numeral }) (Some (record { row = row2; numeral = numeral2 }))
+values_form kind (Five set row numeral row2 numeral2) =
+    Values kind set (record { row = row; numeral = numeral }) (Some (record { row = row2; numeral = numeral2 }))
+values_form kind _ = Miscounted
 
--- the section after the columns
-abbrev pub next_head : Bool → List ℕ → Form
-next_head data_line head =
-    if is_head data_line head (codes "RHS") then RhsHead else form_when (is_head data_line head (codes "BOUNDS")) BoundsHead
+-- the bound of a type
+abbrev pub bound_named : List ℕ → Option BoundKind
+bound_named word =
+    if bytes_eq word (codes "LO") then Some Lower
+    else if bytes_eq word (codes "UP") then Some Upper
+    else if bytes_eq word (codes "FX") then Some Fixed
+    else if bytes_eq word (codes "LI") then Some IntegerLower
+    else if bytes_eq word (codes "UI") then Some IntegerUpper
+    else if bytes_eq word (codes "FR") then Some Free
+    else if bytes_eq word (codes "MI") then Some NoLower
+    else if bytes_eq word (codes "PL") then Some NoUpper
+    else if bytes_eq word (codes "BV") then Some Binary
+    else None
 
-abbrev pub closed_form : Bool → Words → Form
-closed_form data_line (One head) = next_head data_line head
-closed_form data_line _ = Stray
+-- whether a bound has a numeral
+abbrev pub has_numeral : BoundKind → Bool
+has_numeral Lower = true
+has_numeral Upper = true
+has_numeral Fixed = true
+has_numeral IntegerLower = true
+has_numeral IntegerUpper = true
+has_numeral Free = false
+has_numeral NoLower = false
+has_numeral NoUpper = false
+has_numeral Binary = false
 
--- a column's entry, the marker that ends the columns, or the next section
-abbrev pub integers_form : Bool → Words → Form
-integers_form data_line (Three a b c) = if is_marker data_line b c (codes "'INTEND'") then IntegersEnd else entry_form data_line a b (number c)
-integers_form data_line words = closed_form data_line words
+-- a bound with a numeral: a set or none, a column and the numeral
+abbrev pub numeral_bound : BoundKind → Words → Form
+numeral_bound kind (Three type column numeral) = BoundLine kind [] column numeral
+numeral_bound kind (Four type set column numeral) = BoundLine kind set column numeral
+numeral_bound kind _ = Miscounted
 
--- the same, or two entries of a column
-abbrev pub integers_line : Bool → Words → Line
-integers_line data_line (Five column row value second more) = Double (entry_form data_line column row (number value)) (entry_form data_line column second (number more))
-integers_line data_line words = Single (integers_form data_line words)
+-- a bound without one: a set or none, and a column; a field after them is skipped
+abbrev pub plain_bound : BoundKind → Words → Form
+plain_bound kind (Two type column) = BoundLine kind [] column []
+plain_bound kind (Three type set column) = BoundLine kind set column []
+plain_bound kind (Four type set column skipped) = BoundLine kind set column []
+plain_bound kind _ = Miscounted
 
--- a row's right-hand side
-abbrev pub side_form : Bool → List ℕ → List ℕ → Option ℤ → Form
-side_form data_line set row None = Stray
-side_form data_line set row (Some value) = form_when (data_line && is_short_name set && is_short_name row) (RightSide set row value)
+-- a bound, if its type is known
+abbrev pub typed_bound : Option BoundKind → Words → Form
+typed_bound None words = UntypedBound
+typed_bound (Some kind) words = if has_numeral kind then numeral_bound kind words else plain_bound kind words
 
-abbrev pub rhs_form : Bool → Words → Form
-rhs_form data_line (Three set row value) = side_form data_line set row (number value)
-rhs_form data_line (One head) = form_when (is_head data_line head (codes "BOUNDS")) BoundsHead
-rhs_form data_line _ = Stray
+-- a line of bounds
+abbrev pub bounds_form : Words → Form
+bounds_form words = typed_bound (bound_named (first_word words)) words
 
--- one or two right-hand sides, or the next section
-abbrev pub rhs_line : Bool → Words → Line
-rhs_line data_line (Five set row value second more) = Double (side_form data_line set row (number value)) (side_form data_line set second (number more))
-rhs_line data_line words = Single (rhs_form data_line words)
+-- a data line in a section; under OBJSENSE there is one
+abbrev pub data_form : Option Section → Bool → Words → Form
+data_form None has_sense_line words = Stray
+data_form (Some Name) has_sense_line words = Stray
+data_form (Some Objsense) has_sense_line words = if has_sense_line then Stray else sense_form words
+data_form (Some Rows) has_sense_line words = rows_form words
+data_form (Some Columns) has_sense_line words = columns_form words
+data_form (Some Rhs) has_sense_line words = values_form Side words
+data_form (Some Ranges) has_sense_line words = values_form Range words
+data_form (Some Bounds) has_sense_line words = bounds_form words
+data_form (Some Endata) has_sense_line words = Stray
 
-abbrev pub is_bound : Bool → List ℕ → List ℕ → List ℕ → List ℕ → Bool
-is_bound data_line kind word set column = data_line && bytes_eq kind word && is_short_name set && is_short_name column
+-- what fields say
+abbrev pub words_form : Option Section → Bool → Bool → Words → Form
+words_form section has_sense_line data_line words =
+    if has_none words then Blank
+    else if data_line then data_form section has_sense_line words
+    else head_form words
 
-abbrev pub upper_form : Bool → List ℕ → List ℕ → List ℕ → Option ℕ → Form
-upper_form data_line kind set column None = Stray
-upper_form data_line kind set column (Some high) = form_when (is_bound data_line kind (codes "UP") set column) (BoundLine set column high)
+-- what a line says in a section
+abbrev pub form_of : Option Section → Bool → List ℕ → Form
+form_of section has_sense_line line =
+    if is_comment line then Blank
+    else if not (list_all is_line_byte line) then Spoilt
+    else words_form section has_sense_line (is_data line) (words_of (fields line))
 
--- an upper bound, a column of values 0 and 1, or the end
-abbrev pub bounds_form : Bool → Words → Form
-bounds_form data_line (Four kind set column value) = upper_form data_line kind set column (digits value)
-bounds_form data_line (Three kind set column) = form_when (is_bound data_line kind (codes "BV") set column) (BoundLine set column 1)
-bounds_form data_line (One head) = form_when (is_head data_line head (codes "ENDATA")) End
-bounds_form data_line _ = Stray
-
--- what may stand at a place of the file
-abbrev pub line_at : Place → Bool → Words → Line
-line_at Start data_line words = Single (title_form data_line words)
-line_at Named data_line words = Single (rows_form data_line words)
-line_at Rows data_line words = Single (objective_form data_line words)
-line_at MoreRows data_line words = Single (more_rows_form data_line words)
-line_at Columns data_line words = Single (begin_form data_line words)
-line_at Integers data_line words = integers_line data_line words
-line_at Closed data_line words = Single (closed_form data_line words)
-line_at Rhs data_line words = rhs_line data_line words
-line_at Bounds data_line words = Single (bounds_form data_line words)
-
--- what a line says at a place of the file
-abbrev pub line_of : Place → List ℕ → Line
-line_of place line = if list_all is_line_byte line then line_at place (is_data line) (words_of (fields line)) else Single Stray
+-- whether a line ends the file
+abbrev pub is_end : Form → Bool
+is_end (Head Endata word) = true
+is_end _ = false

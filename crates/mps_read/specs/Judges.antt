@@ -1,18 +1,13 @@
-use Rattle.std.specs.Prelude.{◌≡◌, Bool, true, false}
-use Rattle.mps_read.specs.Forms.{Form, Line}
-use Rattle.mps_read.specs.Readings.{is_last}
-use Rattle.mps_read.specs.Steps.{may_follow, may_come, step, after_line}
+use Rattle.std.specs.Prelude.{◌≡◌, true, false, Some, None}
+use Rattle.mps_read.specs.Forms.{Form, is_end}
+use Rattle.mps_read.specs.Kinds.{kind_of}
+use Rattle.mps_read.specs.Steps.{after}
 use Rattle.mps_read.specs.declared.draft.Draft.{Draft}
 use Rattle.mps_read.specs.declared.draft.Judgement.{Judgement}
 use Rattle.mps_read.specs.declared.draft.Judgement.TheVariants.{Refused, Taken, Ended}
 
--- the answer on a line: it may not follow, or it may and the draft is the next, or it ends the file
-abbrev pub Judges : Judgement → Draft → Line → Draft → Type 0
-Judges Refused old line new = may_come old line ≡ false
-Judges Taken old line new = (may_come old line ≡ true) × (is_last line ≡ false) × (new ≡ after_line old line)
-Judges Ended old line new = (may_come old line ≡ true) × (is_last line ≡ true) × (new ≡ old)
-
--- the answer on one pair: it may not follow, or it may and the draft is the next
-abbrev pub Takes : Bool → Draft → Form → Draft → Type 0
-Takes false old form new = may_follow old form ≡ false
-Takes true old form new = (may_follow old form ≡ true) × (new ≡ step old form)
+-- the answer on a line: the kind that refuses it, or none does and the draft is the next, or it ends the file
+abbrev pub Judges : Judgement → Draft → Form → Draft → Type 0
+Judges (Refused kind) old form new = kind_of old form ≡ Some kind
+Judges Taken old form new = (kind_of old form ≡ None) × (is_end form ≡ false) × (new ≡ after old form)
+Judges Ended old form new = (kind_of old form ≡ None) × (is_end form ≡ true) × (new ≡ old)

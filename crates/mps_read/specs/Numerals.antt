@@ -1,20 +1,50 @@
-use Rattle.std.specs.Prelude.{ℕ, ◌+◌, ◌*◌, ◌-◌, Bool, ◌&&◌, nat_le, ◌==◌, List, [], ◌∷◌, length, Option, Some, None, ℤ, pos, neg_ℤ, if◌then◌else◌}
-use Rattle.std.specs.List.{list_all}
-use Rattle.std.specs.Option.{option_map}
+-- Numerals of a file as decimals.
+use Rattle.std.specs.Prelude.{ℕ, ◌+◌, ◌*◌, ◌^◌, Bool, true, false, ◌==◌, nat_le, List, ℤ, pos, negsuc, Result, Ok, Err}
+use Rattle.ip_core.specs.Decimals.{read_decimal}
+use Rattle.ip_core.specs.Decimals.{Number}
+use Rattle.ip_core.specs.declared.decimal.NumeralError.{NumeralError}
 
-abbrev pub is_digit : ℕ → Bool
-is_digit b = nat_le 48 b && nat_le b 57
+-- the number 0
+abbrev pub zero_decimal : Number
+zero_decimal = record { mantissa = pos 0; exponent = pos 0 }
 
--- the number that decimal digits give after `so_far`
-abbrev pub decimal : ℕ → List ℕ → ℕ
-decimal so_far [] = so_far
-decimal so_far (d ∷ ds) = decimal (so_far * 10 + (d - 48)) ds
+-- the number 1
+abbrev pub one_decimal : Number
+one_decimal = record { mantissa = pos 1; exponent = pos 0 }
 
--- one to six decimal digits as a number
-abbrev pub digits : List ℕ → Option ℕ
-digits bytes = if nat_le 1 (length bytes) && nat_le (length bytes) 6 && list_all is_digit bytes then Some (decimal 0 bytes) else None
+-- whether the bytes were read
+abbrev pub is_read : Result Number NumeralError → Bool
+is_read (Ok d) = true
+is_read (Err e) = false
 
--- the same after a `-` or without one
-abbrev pub number : List ℕ → Option ℤ
-number [] = None
-number (b ∷ bs) = if b == 45 then option_map (λ n. neg_ℤ (pos n)) (digits bs) else option_map (λ n. pos n) (digits (b ∷ bs))
+-- whether bytes are a numeral
+abbrev pub is_numeral : List ℕ → Bool
+is_numeral bytes = is_read (read_decimal bytes)
+
+-- what was read, or 0
+abbrev pub or_zero : Result Number NumeralError → Number
+or_zero (Ok d) = d
+or_zero (Err e) = zero_decimal
+
+-- the decimal that a numeral stands for
+abbrev pub decimal_of : List ℕ → Number
+decimal_of bytes = or_zero (read_decimal bytes)
+
+-- whether a whole number is 0
+abbrev pub is_zero_int : ℤ → Bool
+is_zero_int (pos n) = n == 0
+is_zero_int (negsuc n) = false
+
+-- whether a decimal is 0
+abbrev pub is_zero : Number → Bool
+is_zero d = is_zero_int d.mantissa
+
+-- whether mantissa times ten to the exponent is 10^20 or more, which stands for no bound
+abbrev pub reaches_infinity : ℤ → ℤ → Bool
+reaches_infinity (pos m) (pos e) = nat_le (10 ^ 20) (m * 10 ^ e)
+reaches_infinity (pos m) (negsuc e) = nat_le (10 ^ (21 + e)) m
+reaches_infinity (negsuc m) exponent = false
+
+-- the same of a decimal
+abbrev pub is_infinite : Number → Bool
+is_infinite d = reaches_infinity d.mantissa d.exponent

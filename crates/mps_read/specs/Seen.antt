@@ -1,13 +1,51 @@
-use Rattle.mps_read.specs.Lines.{Words, Zero, One, Two, Three, Four, Five, Many}
+-- The fields of a line as values.
+use Rattle.std.specs.Prelude.{ℕ, ◌≡◌, ◌≤◌, ◌^◌, true, length, List, Option, Some, None}
+use Rattle.std.specs.List.{list_all}
+use Rattle.mps_read.specs.Forms.{Pair}
+use Rattle.mps_read.specs.Lines.{Words, Zero, One, Two, Three, Four, Five, Many, is_visible}
 use Rattle.mps_read.specs.declared.line.Fields.{Fields}
-use Rattle.mps_read.specs.declared.line.Fields.TheVariants.{Empty, Single, Pair, Triple, Quadruple, Quintuple, More}
+use Rattle.mps_read.specs.declared.line.Fields.TheVariants.{Empty, Single, Double, Triple, Quadruple, Quintuple, More}
+use Rattle.mps_read.specs.declared.line.FieldPair.{FieldPair}
 
--- the fields as values
+-- the fields of a line
 abbrev pub seen : Fields → Words
 seen Empty = Zero
 seen (Single a) = One a.now
-seen (Pair a b) = Two a.now b.now
+seen (Double a b) = Two a.now b.now
 seen (Triple a b c) = Three a.now b.now c.now
 seen (Quadruple a b c d) = Four a.now b.now c.now d.now
 seen (Quintuple a b c d e) = Five a.now b.now c.now d.now e.now
-seen More = Many
+seen (More a b) = Many a.now b.now
+
+-- a pair of fields
+abbrev pub seen_pair : FieldPair → Pair
+seen_pair p = record { row = p.row.now; numeral = p.numeral.now }
+
+-- a second pair, if there is one
+abbrev pub seen_second : Option FieldPair → Option Pair
+seen_second None = None
+seen_second (Some p) = Some (seen_pair p)
+
+-- a field has visible bytes alone, and no more than a text may have
+pub record IsField (field : List ℕ) : Type 0 where
+  pub visible : list_all is_visible field ≡ true
+  pub short : length field ≤ 2 ^ 30
+
+-- each of them is a field
+abbrev pub AreFields : Words → Type 0
+AreFields Zero = Unit {0}
+AreFields (One a) = IsField a
+AreFields (Two a b) = IsField a × IsField b
+AreFields (Three a b c) = IsField a × IsField b × IsField c
+AreFields (Four a b c d) = IsField a × IsField b × IsField c × IsField d
+AreFields (Five a b c d e) = IsField a × IsField b × IsField c × IsField d × IsField e
+AreFields (Many a b) = IsField a × IsField b
+
+-- both of a pair are fields
+abbrev pub IsPair : FieldPair → Type 0
+IsPair p = IsField p.row.now × IsField p.numeral.now
+
+-- and those of a second pair, if there is one
+abbrev pub IsSecond : Option FieldPair → Type 0
+IsSecond None = Unit {0}
+IsSecond (Some p) = IsPair p

@@ -1,108 +1,133 @@
-use Rattle.std.specs.Prelude.{ℕ, ◌+◌, Bool, true, false, ◌&&◌, List, [], ◌∷◌, ◌++◌, Some, None, is_some, ℤ, slice_set, if◌then◌else◌}
-use Rattle.std.specs.List.{list_all}
-use Rattle.mps_read.specs.Forms.{Form, Title, RowLine, Entry, RightSide, BoundLine, End, Stray, Line, Single, Double, line_of}
-use Rattle.mps_read.specs.Facts.{place_of, place_after, name_of, rows_of, limits_of, columns_of, entries_of, bounds_of, rhs_set_of, bound_set_of, first_set, is_among, place_among, extended, with_name, unlimited, with_side}
-use Rattle.mps_read.specs.Rules.{is_new_row, is_new_entry, is_same_set, is_unsided, is_unbound}
-use Rattle.mps_read.specs.Parts.{plain_parts}
-use Rattle.mps_read.specs.Readings.{Reading, Read, RefusedAt, is_last}
-use Rattle.mps_read.specs.declared.draft.Draft.{Draft}
-use Rattle.mps_read.specs.declared.place.Place.TheVariants.{Integers}
-
 -- The reader's own way over the lines: it keeps a draft in place of the lines.
+use Rattle.std.specs.Prelude.{ℕ, ◌+◌, true, List, [], ◌∷◌, Some, if◌then◌else◌}
+use Rattle.ip_core.specs.Decimals.{Number}
+use Rattle.mps_read.specs.Names.{is_among, place_among, extended, with_name}
+use Rattle.mps_read.specs.Numerals.{decimal_of}
+use Rattle.mps_read.specs.Forms.{Form, Pair, Blank, Spoilt, Head, UnknownHead, Stray, Miscounted, SenseLine, FreeRow, KeptRow, UntypedRow, Marker, UnknownMarker, Entries, Values, BoundLine, UntypedBound, form_of, is_end}
+use Rattle.mps_read.specs.Facts.{after_pairs, sense_named, first_given, is_used, with_head, with_set}
+use Rattle.mps_read.specs.RowFacts.{fresh, free_place, with_marked, fresh_row, with_value, with_constant, place_of_pair}
+use Rattle.mps_read.specs.ColumnFacts.{fresh_column, with_coefficient, with_bound, with_mark, with_latest}
+use Rattle.mps_read.specs.Kinds.{kind_of, values_use}
+use Rattle.mps_read.specs.Readings.{Reading, Read, RefusedAt, outcome, model_of}
+use Rattle.mps_read.specs.declared.error.MpsKind.TheVariants.{NoEndata}
+use Rattle.mps_read.specs.declared.model.RowKind.{RowKind}
+use Rattle.mps_read.specs.declared.section.Section.{Section}
+use Rattle.mps_read.specs.declared.section.Section.TheVariants.{Name, Objsense, Rows, Columns, Rhs, Ranges, Bounds, Endata}
+use Rattle.mps_read.specs.declared.section.ValueKind.{ValueKind}
+use Rattle.mps_read.specs.declared.section.ValueKind.TheVariants.{Side, Range}
+use Rattle.mps_read.specs.declared.section.BoundKind.{BoundKind}
+use Rattle.mps_read.specs.declared.draft.Draft.{Draft}
+use Rattle.mps_read.specs.declared.draft.RowPlace.{RowPlace}
+use Rattle.mps_read.specs.declared.draft.RowPlace.TheVariants.{Kept}
 
--- whether this may follow what the draft holds
-abbrev pub may_follow : Draft → Form → Bool
-may_follow d (RowLine kind name) = is_new_row name d.rows
-may_follow d (Entry column row value) = is_new_entry d.rows d.columns d.entries column row value
-may_follow d (RightSide set row value) = is_same_set d.rhs_set set && is_unsided row d.rows d.limits
-may_follow d (BoundLine set column high) = is_same_set d.bound_set set && is_unbound column d.columns d.bounds
-may_follow d End = list_all is_some d.bounds
-may_follow d Stray = false
-may_follow d _ = true
+-- the draft after a section line
+abbrev pub after_head : Draft → Section → List ℕ → Draft
+after_head d Name word = record d { section = Some Name; name = word }
+after_head d Objsense word = record d { section = Some Objsense; maximise = sense_named word }
+after_head d Rows word = record d { section = Some Rows }
+after_head d Columns word = record d { section = Some Columns }
+after_head d Rhs word = record d { section = Some Rhs; rhs = with_head d.rhs }
+after_head d Ranges word = record d { section = Some Ranges; ranges = with_head d.ranges }
+after_head d Bounds word = record d { section = Some Bounds; bounds = with_head d.bounds }
+after_head d Endata word = record d { section = Some Endata }
 
--- the marks that stay when an entry follows: none where it begins a column
-abbrev pub kept_marks : Bool → List ℕ → List ℕ
-kept_marks known marks = if known then marks else []
+-- after a row without right-hand side
+abbrev pub after_free : Draft → List ℕ → Draft
+after_free d name =
+    record d {
+      row_names = with_name name d.row_names;
+      row_states = extended (is_among name d.row_names) (fresh (free_place d.objective)) d.row_states;
+      objective = first_given d.objective name;
+      latest = extended (is_among name d.row_names) 0 d.latest;
+    }
 
--- the draft with a column begun, where it is new
+-- after a row of the model
+abbrev pub after_row : Draft → RowKind → List ℕ → Draft
+after_row d kind name =
+    record d {
+      row_names = with_name name d.row_names;
+      row_states = extended (is_among name d.row_names) (fresh (Kept d.kept)) d.row_states;
+      kept = if is_among name d.row_names then d.kept else d.kept + 1;
+      rows = extended (is_among name d.row_names) (fresh_row kind name) d.rows;
+      latest = extended (is_among name d.row_names) 0 d.latest;
+    }
+
+-- with a column, which is begun where it is new
 abbrev pub begun : Draft → List ℕ → Draft
 begun d column =
     record d {
-      columns = with_name column d.columns;
-      bounds = extended (is_among column d.columns) None d.bounds;
-      marks = kept_marks (is_among column d.columns) d.marks;
+      column_names = with_name column d.column_names;
+      cols = extended (is_among column d.column_names) (fresh_column d.is_integer column) d.cols;
     }
 
--- the draft with one more entry
-abbrev pub entered : Draft → ℕ → ℕ → ℤ → Draft
-entered d row col value =
+-- with an entry: of the row of a name's number in the column of a number
+abbrev pub entered : ℕ → RowPlace → ℕ → Number → Draft → Draft
+entered row place col value d =
     record d {
-      place = Integers;
-      entries = d.entries ++ record { row = row; col = col; value = value } ∷ [];
-      marks = d.marks ++ row ∷ [];
+      cols = with_coefficient place value col d.cols;
+      marks = with_mark place row col d.marks;
+      latest = with_latest place row (col + 1) d.latest;
     }
 
--- the draft after one more form
-abbrev pub step : Draft → Form → Draft
-step d (Title name) = record d { place = place_after (Title name); name = name }
-step d (RowLine kind name) =
-    record d {
-      place = place_after (RowLine kind name);
-      rows = with_name name d.rows;
-      limits = extended (is_among name d.rows) (unlimited kind) d.limits;
-    }
-step d (Entry column row value) = entered (begun d column) (place_among row d.rows) (place_among column d.columns) value
-step d (RightSide set row value) =
-    record d {
-      place = place_after (RightSide set row value);
-      limits = with_side (place_among row d.rows) value d.limits;
-      rhs_set = first_set d.rhs_set set;
-    }
-step d (BoundLine set column high) =
-    record d {
-      place = place_after (BoundLine set column high);
-      bounds = slice_set d.bounds (place_among column d.columns) (Some high);
-      bound_set = first_set d.bound_set set;
-    }
-step d form = record d { place = place_after form }
+-- the same for a pair of a line
+abbrev pub entered_pair : Draft → ℕ → Pair → Draft → Draft
+entered_pair from col pair d =
+    entered (place_among pair.row from.row_names) (place_of_pair from.row_names from.row_states pair) col (decimal_of pair.numeral) d
 
--- whether a line may follow what the draft holds
-abbrev pub may_come : Draft → Line → Bool
-may_come d (Single form) = may_follow d form
-may_come d (Double first second) = may_follow d first && may_follow (step d first) second
+-- with a right-hand side or a range of the row of a name's number
+abbrev pub given : ValueKind → ℕ → RowPlace → Number → Draft → Draft
+given kind row place value d =
+    record d {
+      row_states = with_marked kind row d.row_states;
+      rows = with_value kind place value d.rows;
+      constant = with_constant kind place value d.constant;
+    }
+
+-- the same for a pair of a line
+abbrev pub given_pair : Draft → ValueKind → Pair → Draft → Draft
+given_pair from kind pair d =
+    given kind (place_among pair.row from.row_names) (place_of_pair from.row_names from.row_states pair) (decimal_of pair.numeral) d
+
+-- with the set of a section named, where it has none
+abbrev pub with_values_set : ValueKind → List ℕ → Draft → Draft
+with_values_set Side set d = record d { rhs = with_set set d.rhs }
+with_values_set Range set d = record d { ranges = with_set set d.ranges }
+
+-- with a bound of the used set
+abbrev pub after_bound : Draft → BoundKind → List ℕ → List ℕ → Number → Draft
+after_bound d kind set column value =
+    record d {
+      cols = with_bound kind value (place_among column d.column_names) d.cols;
+      bounds = with_set set d.bounds;
+    }
 
 -- the draft after one more line
-abbrev pub after_line : Draft → Line → Draft
-after_line d (Single form) = step d form
-after_line d (Double first second) = step (step d first) second
+abbrev pub after : Draft → Form → Draft
+after d Blank = d
+after d Spoilt = d
+after d (Head section word) = after_head d section word
+after d UnknownHead = d
+after d Stray = d
+after d Miscounted = d
+after d (SenseLine word) = record d { has_sense_line = true; maximise = sense_named word }
+after d (FreeRow name) = after_free d name
+after d (KeptRow kind name) = after_row d kind name
+after d UntypedRow = d
+after d (Marker is_integer) = record d { is_integer = is_integer }
+after d UnknownMarker = d
+after d (Entries column first second) =
+    after_pairs (entered_pair d (place_among column d.column_names)) first second (begun d column)
+after d (Values kind set first second) =
+    if is_used (values_use kind d).set set
+    then with_values_set kind set (after_pairs (given_pair d kind) first second d)
+    else d
+after d (BoundLine kind set column numeral) =
+    if is_used d.bounds.set set then after_bound d kind set column (decimal_of numeral) else d
+after d UntypedBound = d
 
 -- what the reading of the lines from one on gives, after those that made the draft
 abbrev pub run : Draft → ℕ → List (List ℕ) → Reading
-run d number [] = RefusedAt number
-run d number (text ∷ rest) =
-    let line = line_of d.place text
-    in if may_come d line
-    then (if is_last line then Read (plain_parts d.name d.columns d.limits d.entries d.bounds) else run (after_line d line) (number + 1) rest)
-    else RefusedAt number
-
--- the rows that the last column has entries in
-abbrev pub marks_of : List Form → List ℕ
-marks_of [] = []
-marks_of (Entry column row value ∷ before) =
-    kept_marks (is_among column (columns_of before)) (marks_of before) ++ place_among row (rows_of before) ∷ []
-marks_of (_ ∷ before) = marks_of before
-
--- the draft that some lines make
-abbrev pub draft_of : List Form → Draft
-draft_of before = record {
-  place = place_of before;
-  name = name_of before;
-  rows = rows_of before;
-  limits = limits_of before;
-  columns = columns_of before;
-  entries = entries_of before;
-  marks = marks_of before;
-  bounds = bounds_of before;
-  rhs_set = rhs_set_of before;
-  bound_set = bound_set_of before;
-}
+run d number [] = RefusedAt number NoEndata
+run d number (line ∷ rest) =
+    let form = form_of d.section d.has_sense_line line
+    in outcome (kind_of d form) (is_end form) number (Read (model_of d)) (run (after d form) (number + 1) rest)

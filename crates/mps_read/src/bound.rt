@@ -1,97 +1,177 @@
-ghost use Rattle.std.specs.Prelude.{◌≡◌, ◌≤◌, true, is_some, IfOk};
-ghost use Rattle.std.specs.List.{list_all};
-ghost use Rattle.mps_read.specs.Forms.{bounds_form, is_short_name, is_bound as is_bound_of, BoundLine, Single};
-ghost use Rattle.mps_read.specs.Seen.{seen};
-ghost use Rattle.mps_read.specs.Judges.{Judges};
+ghost use Rattle.std.specs.Prelude.{◌≡◌, ◌≤◌, ◌<◌, ◌^◌, ◌&&◌, not, true, false, length, Some, None, IfOk, OnOk, MatchOption};
+ghost use Rattle.mps_read.specs.Names.{is_long as is_long_name};
+ghost use Rattle.mps_read.specs.Forms.{bounds_form, BoundLine, has_numeral as is_with_numeral};
+ghost use Rattle.mps_read.specs.Facts.{is_used as is_used_set};
+ghost use Rattle.mps_read.specs.Numerals.{is_numeral, decimal_of};
+ghost use Rattle.mps_read.specs.ColumnFacts.{low_limit as low_limit_of, high_limit as high_limit_of, with_bound};
+ghost use Rattle.mps_read.specs.Seen.{seen, AreFields, IsField};
 ghost use Rattle.mps_read.specs.Drafts.{IsDraft};
+ghost use Rattle.mps_read.specs.Judges.{Judges};
 
 use crate::draft::{Draft, Judgement};
+use crate::error::MpsKind;
 use crate::line::Fields;
-use crate::numeral::read_digits;
-use crate::place::Place;
-use crate::section::{is_head, is_same_set, is_word};
-use crate::short_name::{is_short, short_name};
-use ip_core::OutOfMemory;
+use crate::model::{Limit, MpsCol};
+use crate::name::is_long;
+use crate::numeral::{is_infinite, one};
+use crate::section::{BoundKind, bound_named, has_numeral};
+use crate::value::{is_used, name_set};
+use ip_core::{Decimal, List, OutOfMemory};
 use std::alloc::Global;
 
-/// Whether each column has a bound.
-fn all_bound(bounds: &[Option<u32>]) -> bool
-    ensures { result ≡ list_all is_some bounds.now }
+/// A number as a low: -10^20 or less stands for none.
+fn low_limit(value: Decimal) -> Limit
+    ensures { result ≡ low_limit_of value }
 {
-    bounds.iter().all(|bound| bound.is_some())
+    if is_infinite(value.negated()) {
+        Limit::Free
+    } else {
+        Limit::At(value)
+    }
 }
 
-/// Whether a data line has this kind of bound, with names of a set and a column.
-fn is_bound(data_line: bool, kind: &[u8], word: &[u8], set: &[u8], column: &[u8]) -> bool
-    ensures { result ≡ is_bound_of data_line kind.now word.now set.now column.now }
+/// A number as a high: 10^20 or more stands for none.
+fn high_limit(value: Decimal) -> Limit
+    ensures { result ≡ high_limit_of value }
 {
-    data_line && is_word(kind, word) && is_short(set) && is_short(column)
+    if is_infinite(value) {
+        Limit::Free
+    } else {
+        Limit::At(value)
+    }
 }
 
-/// The bound of a column.
-fn take_bound(
+/// Bounds a column.
+fn set_bound(cols: &mut List<MpsCol>, kind: BoundKind, col: usize, value: Decimal)
+    requires { col < length cols.old }
+    ensures { cols.new ≡ with_bound kind value col cols.old }
+{
+    let column = &mut cols.as_mut_slice()[col];
+    match kind {
+        BoundKind::Lower => column.low = low_limit(value),
+        BoundKind::Upper => column.high = high_limit(value),
+        BoundKind::Fixed => {
+            column.low = low_limit(value);
+            column.high = high_limit(value);
+        }
+        BoundKind::IntegerLower => {
+            column.integer = true;
+            column.low = low_limit(value);
+        }
+        BoundKind::IntegerUpper => {
+            column.integer = true;
+            column.high = high_limit(value);
+        }
+        BoundKind::Free => {
+            column.low = Limit::Free;
+            column.high = Limit::Free;
+        }
+        BoundKind::NoLower => column.low = Limit::Free,
+        BoundKind::NoUpper => column.high = Limit::Free,
+        BoundKind::Binary => {
+            column.integer = true;
+            column.low = Limit::At(Decimal::zero());
+            column.high = Limit::At(one());
+        }
+    }
+}
+
+/// The number of a bound, or 0 for a type that has none; None where a numeral is asked for and the bytes aren't one.
+fn bound_value(kind: BoundKind, numeral: &[u8]) -> Option<Decimal>
+    requires { length numeral.now ≤ 2 ^ 30 }
+    ensures { MatchOption result ((is_with_numeral kind && not (is_numeral numeral.now)) ≡ true) (λ d. ((is_with_numeral kind && not (is_numeral numeral.now)) ≡ false) × (d ≡ decimal_of numeral.now)) }
+{
+    match Decimal::read(numeral) {
+        Ok(value) => Some(value),
+        Err(_) => {
+            if has_numeral(kind) {
+                return None;
+            }
+            Some(Decimal::zero())
+        }
+    }
+}
+
+/// A bound line of the used set.
+fn take_used(
     alloc: Global,
     draft: &mut Draft,
+    kind: BoundKind,
     set: &[u8],
     column: &[u8],
-    high: u32,
+    numeral: &[u8],
 ) -> Result<Judgement, OutOfMemory>
     requires draft { IsDraft draft.old }
-    requires named { is_short_name set.now ≡ true }
-    requires small { high ≤ 999999 }
-    ensures judged { IfOk result (λ j. Judges j draft.old (Single (BoundLine set.now column.now high)) draft.new) }
-    ensures kept { IfOk result (λ j. IsDraft draft.new) }
+    requires set { IsField set.now }
+    requires numeral { length numeral.now ≤ 2 ^ 30 }
+    requires used { is_used_set draft.old.bounds.set set.now ≡ true }
+    ensures { IfOk result (λ j. Judges j draft.old (BoundLine kind set.now column.now numeral.now) draft.new) }
 {
-    if !is_same_set(&draft.bound_set, set) {
-        return Ok(Judgement::Refused);
-    }
-    let Some(place) = draft.columns.find(column) else {
-        return Ok(Judgement::Refused);
+    let Some(value) = bound_value(kind, numeral) else {
+        return Ok(Judgement::Refused(MpsKind::Numeral));
     };
-    if draft.bounds.as_slice()[place].is_some() {
-        return Ok(Judgement::Refused);
+    let Some(col) = draft.column_names.find(column) else {
+        return Ok(Judgement::Refused(MpsKind::UnknownName));
+    };
+    if is_long(set) {
+        return Ok(Judgement::Refused(MpsKind::LongName));
     }
-    if draft.bound_set.is_none() {
-        draft.bound_set = short_name(alloc, set)?;
-    }
-    draft.bounds.set(place, Some(high));
-    draft.place = Place::Bounds;
+    name_set(alloc, &mut draft.bounds, set)?;
+    set_bound(&mut draft.cols, kind, col, value);
     Ok(Judgement::Taken)
 }
 
-/// A line after `BOUNDS`: the bound of a column, or the end.
+/// A bound line: its set is used, or it is skipped.
+fn take_bound(
+    alloc: Global,
+    draft: &mut Draft,
+    kind: BoundKind,
+    set: &[u8],
+    column: &[u8],
+    numeral: &[u8],
+) -> Result<Judgement, OutOfMemory>
+    requires draft { IsDraft draft.old }
+    requires set { IsField set.now }
+    requires numeral { length numeral.now ≤ 2 ^ 30 }
+    ensures { IfOk result (λ j. Judges j draft.old (BoundLine kind set.now column.now numeral.now) draft.new) }
+{
+    if is_used(&draft.bounds, set) {
+        return take_used(alloc, draft, kind, set, column, numeral);
+    }
+    if is_long(set) || is_long(column) {
+        return Ok(Judgement::Refused(MpsKind::LongName));
+    }
+    Ok(Judgement::Taken)
+}
+
+/// A line of bounds: a type, a set or none, a column, and the number that the type asks for.
 pub fn take_bounds(
     alloc: Global,
     draft: &mut Draft,
-    data_line: bool,
     fields: Fields<'_>,
 ) -> Result<Judgement, OutOfMemory>
-    requires { IsDraft draft.old }
-    ensures judged { IfOk result (λ j. Judges j draft.old (Single (bounds_form data_line (seen fields.entry))) draft.new) }
-    ensures kept { IfOk result (λ j. IsDraft draft.new) }
+    requires draft { IsDraft draft.old }
+    requires fields { AreFields (seen fields) }
+    ensures { IfOk result (λ j. Judges j draft.old (bounds_form (seen fields.entry)) draft.new) }
 {
+    let Some(kind) = bound_named(fields.first()) else {
+        return Ok(Judgement::Refused(MpsKind::BoundType));
+    };
+    if has_numeral(kind) {
+        return match fields {
+            Fields::Triple(_, column, numeral) => {
+                take_bound(alloc, draft, kind, &[], column, numeral)
+            }
+            Fields::Quadruple(_, set, column, numeral) => {
+                take_bound(alloc, draft, kind, set, column, numeral)
+            }
+            _ => Ok(Judgement::Refused(MpsKind::FieldCount)),
+        };
+    }
     match fields {
-        Fields::Quadruple(kind, set, column, value) => {
-            let Some(high) = read_digits(value) else {
-                return Ok(Judgement::Refused);
-            };
-            if !is_bound(data_line, kind, b"UP", set, column) {
-                return Ok(Judgement::Refused);
-            }
-            take_bound(alloc, draft, set, column, high)
-        }
-        Fields::Triple(kind, set, column) => {
-            if !is_bound(data_line, kind, b"BV", set, column) {
-                return Ok(Judgement::Refused);
-            }
-            take_bound(alloc, draft, set, column, 1)
-        }
-        Fields::Single(head) => {
-            if is_head(data_line, head, b"ENDATA") && all_bound(draft.bounds.as_slice()) {
-                return Ok(Judgement::Ended);
-            }
-            Ok(Judgement::Refused)
-        }
-        _ => Ok(Judgement::Refused),
+        Fields::Double(_, column) => take_bound(alloc, draft, kind, &[], column, &[]),
+        Fields::Triple(_, set, column) => take_bound(alloc, draft, kind, set, column, &[]),
+        Fields::Quadruple(_, set, column, _) => take_bound(alloc, draft, kind, set, column, &[]),
+        _ => Ok(Judgement::Refused(MpsKind::FieldCount)),
     }
 }

@@ -1,46 +1,86 @@
-ghost use Rattle.std.specs.Prelude.{◌≡◌, [], if◌then◌else◌};
-ghost use Rattle.mps_read.specs.Steps.{draft_of};
-ghost use Rattle.mps_read.specs.declared.draft.Judgement.TheVariants.{Taken, Refused};
+ghost use Rattle.std.specs.Prelude.{◌≡◌, []};
+ghost use Rattle.mps_read.specs.Readings.{draft_of};
+ghost use Rattle.mps_read.specs.Facts.{no_set};
 
+use crate::error::MpsKind;
+use crate::model::{MpsCol, MpsRow};
+use crate::name::empty_name;
 use crate::names::Names;
-use crate::place::Place;
-use crate::row::{Coefficient, RowLimit};
-use ip_core::{List, Name, Text};
+use crate::section::Section;
+use ip_core::{Decimal, List, Name};
 use std::alloc::Global;
 
-/// What the lines so far say: the rows with their limits, the columns with their bounds, the entries in order, and
-/// what may come next. The objective's row stands first. The marks are the rows that the last column has entries in.
-#[derive(Drop)]
-pub struct Draft {
-    pub place: Place,
-    pub name: Name,
-    pub rows: Names,
-    pub limits: List<RowLimit>,
-    pub columns: Names,
-    pub entries: List<Coefficient>,
-    pub marks: List<u32>,
-    pub bounds: List<Option<u32>>,
-    pub rhs_set: Option<Name>,
-    pub bound_set: Option<Name>,
+/// What a name in the section of rows stands for: the objective, a row that is dropped, or a row of the model.
+#[derive(Clone, Copy, Debug, PartialEq, Eq)]
+pub enum RowPlace {
+    Objective,
+    Dropped,
+    Kept(u32),
 }
 
-/// Whether a line is allowed, and whether it ends the file.
+/// What the lines so far say of a name in the section of rows.
+#[derive(Clone, Copy, Debug)]
+pub struct RowState {
+    pub place: RowPlace,
+    pub has_side: bool,
+    pub has_range: bool,
+}
+
+/// An entry by the number of its row's name and that of its column.
+#[derive(Clone, Copy, Debug)]
+pub struct Mark {
+    pub row: usize,
+    pub col: usize,
+}
+
+/// Whether a section of sets began, and the set that its first data line names.
+#[derive(Debug, Drop)]
+pub struct SetUse {
+    pub begun: bool,
+    pub set: Option<Name>,
+}
+
+/// What the lines so far say. Row names are numbered with those of the objective and of dropped rows. The marks are the
+/// entries in the rows that aren't dropped, `kept` is the number of rows of the model, and `latest` has for each row's name the number of columns when it was last
+/// marked, or 0.
+#[derive(Drop)]
+pub struct Draft {
+    pub section: Option<Section>,
+    pub has_sense_line: bool,
+    pub name: Name,
+    pub maximise: Option<bool>,
+    pub row_names: Names,
+    pub row_states: List<RowState>,
+    pub objective: Option<Name>,
+    pub kept: u32,
+    pub rows: List<MpsRow>,
+    pub column_names: Names,
+    pub cols: List<MpsCol>,
+    pub is_integer: bool,
+    pub marks: List<Mark>,
+    pub latest: List<usize>,
+    pub constant: Decimal,
+    pub rhs: SetUse,
+    pub ranges: SetUse,
+    pub bounds: SetUse,
+}
+
+/// What a line is: refused, taken, or the last one.
 #[derive(Clone, Copy, Debug)]
 pub enum Judgement {
-    Refused,
+    Refused(MpsKind),
     Taken,
     Ended,
 }
 
-impl Judgement {
-    /// That of a pair or two: taken where they are allowed.
-    pub fn of_pair(allowed: bool) -> Judgement
-        ensures { result ≡ (if allowed then Taken else Refused) }
+impl SetUse {
+    /// A section that has not begun.
+    fn new() -> SetUse
+        ensures { result ≡ no_set }
     {
-        if allowed {
-            Judgement::Taken
-        } else {
-            Judgement::Refused
+        SetUse {
+            begun: false,
+            set: None,
         }
     }
 }
@@ -50,20 +90,25 @@ impl Draft {
     pub fn new(alloc: Global) -> Draft
         ensures { result ≡ draft_of [] }
     {
-        match Name::of(Text::new(alloc)) {
-            Some(name) => Draft {
-                place: Place::Start,
-                name,
-                rows: Names::new(alloc),
-                limits: List::new(alloc),
-                columns: Names::new(alloc),
-                entries: List::new(alloc),
-                marks: List::new(alloc),
-                bounds: List::new(alloc),
-                rhs_set: None,
-                bound_set: None,
-            },
-            None => unreachable!(),
+        Draft {
+            section: None,
+            has_sense_line: false,
+            name: empty_name(alloc),
+            maximise: None,
+            row_names: Names::new(alloc),
+            row_states: List::new(alloc),
+            objective: None,
+            kept: 0,
+            rows: List::new(alloc),
+            column_names: Names::new(alloc),
+            cols: List::new(alloc),
+            is_integer: false,
+            marks: List::new(alloc),
+            latest: List::new(alloc),
+            constant: Decimal::zero(),
+            rhs: SetUse::new(),
+            ranges: SetUse::new(),
+            bounds: SetUse::new(),
         }
     }
 }

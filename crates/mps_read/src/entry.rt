@@ -1,152 +1,245 @@
-ghost use Rattle.std.specs.Prelude.{◌≡◌, ◌≤◌, ◌<◌, ◌+◌, ◌==◌, true, false, length, unsigned_abs, IfOk, MatchOption};
+ghost use Rattle.std.specs.Prelude.{◌≡◌, ◌≤◌, ◌<◌, ◌^◌, ◌+◌, ◌==◌, ◌&&◌, not, true, false, length, Option, Some, None, IfOk, OnOk};
 ghost use Rattle.std.specs.List.{list_any};
-ghost use Rattle.mps_read.specs.Forms.{entry_form, integers_line, is_short_name, Entry};
-ghost use Rattle.mps_read.specs.Numerals.{number};
-ghost use Rattle.mps_read.specs.Facts.{is_among, place_among};
-ghost use Rattle.mps_read.specs.Rules.{is_open};
-ghost use Rattle.mps_read.specs.Seen.{seen};
-ghost use Rattle.mps_read.specs.Judges.{Judges, Takes};
-ghost use Rattle.mps_read.specs.Steps.{begun};
-ghost use Rattle.mps_read.specs.Drafts.{IsDraft};
+ghost use Rattle.mps_read.specs.Names.{is_among, place_among, is_long as is_long_name};
+ghost use Rattle.mps_read.specs.Forms.{columns_form, marker_form, Entries};
+ghost use Rattle.mps_read.specs.Kinds.{kind_of, has_mark};
+ghost use Rattle.mps_read.specs.Seen.{seen, seen_pair, AreFields, IsField, IsPair};
+ghost use Rattle.mps_read.specs.Steps.{entered, begun};
+ghost use Rattle.mps_read.specs.Drafts.{IsDraft, IsPlaced};
+ghost use Rattle.mps_read.specs.Judges.{Judges};
 
-use crate::draft::{Draft, Judgement};
-use crate::line::Fields;
-use crate::numeral::read_number;
-use crate::place::Place;
-use crate::row::Coefficient;
-use crate::section::{is_marker, take_closed};
-use crate::short_name::is_short;
-use ip_core::{List, OutOfMemory};
+use crate::draft::{Draft, Judgement, Mark, RowPlace};
+use crate::error::MpsKind;
+use crate::line::{FieldPair, Fields};
+use crate::model::{Limit, MpsCol, MpsEntry};
+use crate::name::{is_long, name_of};
+use crate::numeral::{is_zero, read_numeral};
+use crate::pair::{FoundRow, find_row, is_same_row};
+use crate::section::is_word;
+use ip_core::{Decimal, List, OutOfMemory};
 use std::alloc::Global;
 
-/// The most columns of a plain file.
-const MAX_PLAIN_COLUMNS: usize = 64;
+/// A column by its number, which is that of the next one where the column is new.
+#[derive(Clone, Copy)]
+pub struct FoundColumn {
+    pub number: usize,
+    pub is_known: bool,
+}
+
+/// The column of a name.
+#[tactic(auto, using(crate::proofs::Places::place_new))]
+fn find_column(draft: &Draft, name: &[u8]) -> FoundColumn
+    ensures number { result.number ≡ place_among name.now draft.now.column_names }
+    ensures known { result.is_known ≡ is_among name.now draft.now.column_names }
+    ensures within { result.number ≤ length draft.now.column_names }
+{
+    match draft.column_names.find(name) {
+        Some(number) => FoundColumn {
+            number,
+            is_known: true,
+        },
+        None => FoundColumn {
+            number: draft.column_names.len(),
+            is_known: false,
+        },
+    }
+}
+
+/// Whether a row has an entry in a column, looked for among all marks.
+fn is_among_marks(marks: &[Mark], row: usize, col: usize) -> bool
+    ensures { result ≡ has_mark row col marks.now }
+{
+    marks.iter().any(|&mark| mark.row == row && mark.col == col)
+}
+
+/// Whether a row has an entry in a column. Only for a column before the last one all marks are looked through, and such
+/// a line is refused.
+fn is_marked(draft: &Draft, row: usize, col: usize) -> bool
+    requires draft { IsDraft draft.now }
+    requires known { row < length draft.now.row_names }
+    requires within { col ≤ length draft.now.column_names }
+    requires few { length draft.now.column_names < 2 ^ 31 }
+    ensures { result ≡ has_mark row col draft.now.marks }
+{
+    if col + 1 < draft.column_names.len() {
+        return is_among_marks(draft.marks.as_slice(), row, col);
+    }
+    draft.latest.as_slice()[row] == col + 1
+}
 
 /// Begins a column, where it is new.
-fn begin_column(alloc: Global, draft: &mut Draft, column: &[u8]) -> Result<u32, OutOfMemory>
-    requires draft { IsDraft draft.old }
-    requires named { is_short_name column.now ≡ true }
-    requires new { is_among column.now draft.old.columns ≡ false }
-    requires room { length draft.old.columns < 64 }
-    ensures place { IfOk result (λ col. col ≡ place_among column.now draft.old.columns) }
-    ensures last { IfOk result (λ col. col + 1 ≡ length draft.new.columns) }
-    ensures begun { IfOk result (λ col. draft.new ≡ begun draft.old column.now) }
-    ensures kept { IfOk result (λ col. IsDraft draft.new) }
-{
-    let col = draft.columns.len() as u32;
-    draft.columns.add(alloc, column)?;
-    draft.bounds.push(None)?;
-    draft.marks = List::new(alloc);
-    Ok(col)
-}
-
-/// The number of a column that may have one more entry, which is begun where it is new.
-fn open_column(alloc: Global, draft: &mut Draft, column: &[u8]) -> Result<Option<u32>, OutOfMemory>
-    requires draft { IsDraft draft.old }
-    requires named { is_short_name column.now ≡ true }
-    ensures open { IfOk result (λ o. MatchOption o (is_open column.now draft.old.columns ≡ false) (λ col. (is_open column.now draft.old.columns ≡ true) × (col ≡ place_among column.now draft.old.columns) × (col + 1 ≡ length draft.new.columns) × (draft.new ≡ begun draft.old column.now))) }
-    ensures kept { IfOk result (λ o. IsDraft draft.new) }
-{
-    match draft.columns.find(column) {
-        Some(col) => {
-            if col + 1 != draft.columns.len() {
-                return Ok(None);
-            }
-            Ok(Some(col as u32))
-        }
-        None => {
-            if draft.columns.len() >= MAX_PLAIN_COLUMNS {
-                return Ok(None);
-            }
-            Ok(Some(begin_column(alloc, draft, column)?))
-        }
-    }
-}
-
-/// Whether a row is among the marks.
-fn is_marked(marks: &[u32], row: u32) -> bool
-    ensures { result ≡ list_any (λ mark. mark == row) marks.now }
-{
-    marks.iter().any(|&mark| mark == row)
-}
-
-/// The entry of a column in a row: whether it is allowed.
-fn add_entry(
+fn begin_column(
     alloc: Global,
     draft: &mut Draft,
-    column: &[u8],
-    row: &[u8],
-    value: i64,
-) -> Result<bool, OutOfMemory>
-    requires draft { IsDraft draft.old }
-    requires named { is_short_name column.now ≡ true }
-    requires small { unsigned_abs value ≤ 999999 }
-    ensures taken { IfOk result (λ b. Takes b draft.old (Entry column.now row.now value) draft.new) }
-    ensures kept { IfOk result (λ b. IsDraft draft.new) }
+    name: &[u8],
+    is_known: bool,
+) -> Result<(), OutOfMemory>
+    requires field { IsField name.now }
+    requires short { is_long_name name.now ≡ false }
+    requires known { is_known ≡ is_among name.now draft.old.column_names }
+    ensures { OnOk result (draft.new ≡ begun draft.old name.now) }
 {
-    let Some(row) = draft.rows.find(row) else {
-        return Ok(false);
-    };
-    let Some(col) = open_column(alloc, draft, column)? else {
-        return Ok(false);
-    };
-    let row = row as u32;
-    if is_marked(draft.marks.as_slice(), row) || value == 0 {
-        return Ok(false);
+    if is_known {
+        return Ok(());
     }
-    draft.entries.push(Coefficient { row, col, value })?;
-    draft.marks.push(row)?;
-    draft.place = Place::Integers;
-    Ok(true)
+    draft.column_names.add(alloc, name)?;
+    draft.cols.push(MpsCol {
+        name: name_of(alloc, name)?,
+        integer: draft.is_integer,
+        cost: Decimal::zero(),
+        entries: List::new(alloc),
+        low: Limit::Unset,
+        high: Limit::Unset,
+    })?;
+    Ok(())
 }
 
-/// One pair of a column's line: whether it is allowed.
+/// Enters a coefficient of a row in a column.
+fn enter(draft: &mut Draft, row: FoundRow, col: usize, value: Decimal) -> Result<(), OutOfMemory>
+    requires known { row.number < length draft.old.latest }
+    requires column { col < length draft.old.cols }
+    requires few { col < 2 ^ 31 }
+    ensures entered { OnOk result (draft.new ≡ entered row.number row.state.place col value draft.old) }
+    ensures columns { OnOk result (length draft.new.cols ≡ length draft.old.cols) }
+{
+    match row.state.place {
+        RowPlace::Dropped => return Ok(()),
+        RowPlace::Objective => draft.cols.as_mut_slice()[col].cost = value,
+        RowPlace::Kept(row) => {
+            if !is_zero(value) {
+                draft.cols.as_mut_slice()[col]
+                    .entries
+                    .push(MpsEntry { row, value })?;
+            }
+        }
+    }
+    draft.marks.push(Mark {
+        row: row.number,
+        col,
+    })?;
+    draft.latest.set(row.number, col + 1);
+    Ok(())
+}
+
+/// A column's line of one pair.
 fn take_entry(
     alloc: Global,
     draft: &mut Draft,
-    data_line: bool,
     column: &[u8],
-    row: &[u8],
-    value: &[u8],
-) -> Result<bool, OutOfMemory>
-    requires { IsDraft draft.old }
-    ensures taken { IfOk result (λ b. Takes b draft.old (entry_form data_line column.now row.now (number value.now)) draft.new) }
-    ensures kept { IfOk result (λ b. IsDraft draft.new) }
+    first: FieldPair<'_>,
+) -> Result<Judgement, OutOfMemory>
+    requires draft { IsDraft draft.old }
+    requires few { length draft.old.column_names < 2 ^ 31 }
+    requires column { IsField column.now }
+    requires first { IsPair first }
+    ensures { IfOk result (λ j. Judges j draft.old (Entries column.now (seen_pair first.entry) None) draft.new) }
 {
-    let Some(value) = read_number(value) else {
-        return Ok(false);
+    let Some(value) = read_numeral(first.numeral) else {
+        return Ok(Judgement::Refused(MpsKind::Numeral));
     };
-    if !data_line || !is_short(column) || !is_short(row) {
-        return Ok(false);
+    let Some(row) = find_row(draft, first.row) else {
+        return Ok(Judgement::Refused(MpsKind::UnknownName));
+    };
+    let found = find_column(draft, column);
+    if is_marked(draft, row.number, found.number) {
+        return Ok(Judgement::Refused(MpsKind::RepeatedEntry));
     }
-    add_entry(alloc, draft, column, row, value)
+    if found.is_known && found.number + 1 != draft.column_names.len() {
+        return Ok(Judgement::Refused(MpsKind::SplitColumn));
+    }
+    if is_long(column) {
+        return Ok(Judgement::Refused(MpsKind::LongName));
+    }
+    begin_column(alloc, draft, column, found.is_known)?;
+    enter(draft, row, found.number, value)?;
+    Ok(Judgement::Taken)
 }
 
-/// A line among the integer columns: a column, the marker after them, or the next section.
-pub fn take_integers(
+/// A column's line of two pairs.
+fn take_entries(
     alloc: Global,
     draft: &mut Draft,
-    data_line: bool,
+    column: &[u8],
+    first: FieldPair<'_>,
+    second: FieldPair<'_>,
+) -> Result<Judgement, OutOfMemory>
+    requires draft { IsDraft draft.old }
+    requires few { length draft.old.column_names < 2 ^ 31 }
+    requires column { IsField column.now }
+    requires first { IsPair first }
+    requires second { IsPair second }
+    ensures { IfOk result (λ j. Judges j draft.old (Entries column.now (seen_pair first.entry) (Some (seen_pair second.entry))) draft.new) }
+{
+    let (Some(value), Some(value2)) = (read_numeral(first.numeral), read_numeral(second.numeral))
+    else {
+        return Ok(Judgement::Refused(MpsKind::Numeral));
+    };
+    let (Some(row), Some(row2)) = (find_row(draft, first.row), find_row(draft, second.row)) else {
+        return Ok(Judgement::Refused(MpsKind::UnknownName));
+    };
+    let found = find_column(draft, column);
+    if is_marked(draft, row.number, found.number)
+        || is_marked(draft, row2.number, found.number)
+        || is_same_row(row, row2)
+    {
+        return Ok(Judgement::Refused(MpsKind::RepeatedEntry));
+    }
+    if found.is_known && found.number + 1 != draft.column_names.len() {
+        return Ok(Judgement::Refused(MpsKind::SplitColumn));
+    }
+    if is_long(column) {
+        return Ok(Judgement::Refused(MpsKind::LongName));
+    }
+    begin_column(alloc, draft, column, found.is_known)?;
+    enter(draft, row, found.number, value)?;
+    enter(draft, row2, found.number, value2)?;
+    Ok(Judgement::Taken)
+}
+
+/// A marker: whether the columns after it are integer.
+fn take_marker(draft: &mut Draft, word: &[u8]) -> Judgement
+    ensures { Judges result draft.old (marker_form word.now) draft.new }
+{
+    if is_word(word, b"'INTORG'") {
+        draft.is_integer = true;
+        return Judgement::Taken;
+    }
+    if is_word(word, b"'INTEND'") {
+        draft.is_integer = false;
+        return Judgement::Taken;
+    }
+    Judgement::Refused(MpsKind::Marker)
+}
+
+/// A line of columns: a column with one or two pairs, or a marker.
+pub fn take_columns(
+    alloc: Global,
+    draft: &mut Draft,
     fields: Fields<'_>,
 ) -> Result<Judgement, OutOfMemory>
-    requires { IsDraft draft.old }
-    ensures judged { IfOk result (λ j. Judges j draft.old (integers_line data_line (seen fields.entry)) draft.new) }
-    ensures kept { IfOk result (λ j. IsDraft draft.new) }
+    requires draft { IsDraft draft.old }
+    requires few { length draft.old.column_names < 2 ^ 31 }
+    requires fields { AreFields (seen fields) }
+    ensures { IfOk result (λ j. Judges j draft.old (columns_form (seen fields.entry)) draft.new) }
 {
     match fields {
-        Fields::Triple(first, second, third) => {
-            if is_marker(data_line, second, third, b"'INTEND'") {
-                draft.place = Place::Closed;
-                return Ok(Judgement::Taken);
+        Fields::Triple(column, row, numeral) => {
+            if is_word(row, b"'MARKER'") {
+                return Ok(take_marker(draft, numeral));
             }
-            let taken = take_entry(alloc, draft, data_line, first, second, third)?;
-            Ok(Judgement::of_pair(taken))
+            take_entry(alloc, draft, column, FieldPair { row, numeral })
         }
-        Fields::Quintuple(column, row, value, second, more) => {
-            let taken = take_entry(alloc, draft, data_line, column, row, value)?
-                && take_entry(alloc, draft, data_line, column, second, more)?;
-            Ok(Judgement::of_pair(taken))
+        Fields::Quintuple(column, row, numeral, row2, numeral2) => {
+            if is_word(row, b"'MARKER'") {
+                return Ok(Judgement::Refused(MpsKind::FieldCount));
+            }
+            let first = FieldPair { row, numeral };
+            let second = FieldPair {
+                row: row2,
+                numeral: numeral2,
+            };
+            take_entries(alloc, draft, column, first, second)
         }
-        _ => Ok(take_closed(draft, data_line, fields)),
+        _ => Ok(Judgement::Refused(MpsKind::FieldCount)),
     }
 }

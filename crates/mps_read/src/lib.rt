@@ -1,35 +1,33 @@
-//! Reads plain MPS files: rows of at most and of at least, and integer columns from 0 to a bound.
+//! Reads MPS files: models in decimal numbers, with rows of all kinds, ranges, bounds and several sets.
 //!
-//! The lines stand in this order:
-//! - `NAME` and a name; `ROWS`; ` N` and the objective's row; ` L` or ` G` and a row, at most 64 times;
-//! - `COLUMNS`; ` M 'MARKER' 'INTORG'`; lines of a column and one or two pairs of row and number; then, if it is given,
-//!   ` M 'MARKER' 'INTEND'`;
-//! - if it is given, `RHS`; lines of a set and one or two pairs of row and number;
-//! - `BOUNDS`; ` UP`, a set, a column and a number, or ` BV`, a set and a column, once for each column; `ENDATA`.
+//! Blanks, tabs and carriage returns part the fields of a line, so columns of text mean nothing. A line that begins with
+//! `*` is a comment. A section line begins with its name, and a data line with what parts fields. The sections are
+//! `NAME` and `OBJSENSE`, which may be missing, `ROWS`, `COLUMNS`, then `RHS`, `RANGES` and `BOUNDS` in any order, each
+//! of which may be missing, and `ENDATA`.
 //!
-//! A number is one to six digits, after a `-` or without one, and an upper bound has no sign. A name has at most eight
-//! bytes. Row names differ, a column's lines stand together, no entry is zero or given twice, there are at most 64
-//! columns, and the lines of a section name one set. The objective has no right-hand side, and a row without one has 0.
-//! In the model a row of at most is one of at least with all its numbers negated.
+//! [`read`] gives the model, or the first line that isn't allowed given those before it with the first [`MpsKind`] that
+//! applies to it. A line is judged by what all lines before it say; the reader goes over the bytes once, with numbered
+//! names.
 #![tactic(auto)]
 
 mod bound;
 mod draft;
 mod entry;
 mod error;
-mod finish;
+mod head;
 mod line;
+mod model;
+mod name;
 mod names;
 mod numeral;
-mod place;
+mod pair;
 mod reader;
-mod row;
 mod row_line;
 mod section;
-mod short_name;
-mod side;
 #[cfg(test)]
 mod tests;
+mod value;
 
-pub use error::PlainError;
-pub use reader::read_plain;
+pub use error::{MpsError, MpsKind};
+pub use model::{Limit, MpsCol, MpsEntry, MpsModel, MpsRow, RowKind};
+pub use reader::read;

@@ -1,10 +1,8 @@
-ghost use Rattle.std.specs.Prelude.{◌≡◌, ◌<◌, [], true, false, length, All, IfOk, OnOk, MatchOption};
-ghost use Rattle.mps_read.specs.Facts.{is_among, place_among, with_name};
-ghost use Rattle.mps_read.specs.Forms.{is_short_name};
+ghost use Rattle.std.specs.Prelude.{◌≡◌, ◌<◌, [], true, false, length, OnOk, MatchOption};
+ghost use Rattle.mps_read.specs.Names.{is_among, place_among, with_name};
 
-use crate::short_name::short_name;
 use indexmap::IndexSet;
-use ip_core::{List, Name, OutOfMemory};
+use ip_core::OutOfMemory;
 use std::alloc::Global;
 use std::marker::Model;
 
@@ -53,20 +51,5 @@ impl Names {
         let owned = Vec::from_slice(alloc, name)?;
         self.index.insert(owned)?;
         Ok(())
-    }
-
-    /// The names in order.
-    pub fn listed(&self, alloc: Global) -> Result<List<Name>, OutOfMemory>
-        requires { All (λ name. is_short_name name ≡ true) self.now }
-        ensures { IfOk result (λ names. names ≡ self.now) }
-    {
-        let mut names = List::new(alloc);
-        for key in self.index.as_slice() {
-            match short_name(alloc, key.as_slice())? {
-                Some(name) => names.push(name)?,
-                None => unreachable!(),
-            }
-        }
-        Ok(names)
     }
 }

@@ -1,42 +1,59 @@
-ghost use Rattle.std.specs.Prelude.{◌≡◌, ◌≤◌, pos, unsigned_abs, IfSome};
-ghost use Rattle.mps_read.specs.Numerals.{digits, number, is_digit};
-ghost use Rattle.std.specs.List.{list_all};
+ghost use Rattle.std.specs.Prelude.{◌≡◌, ◌≤◌, ◌<◌, ◌^◌, unsigned_abs, true, false, length, MatchOption, option_map};
+ghost use Rattle.mps_read.specs.Numerals.{is_numeral, decimal_of, is_zero as is_zero_number, is_infinite as is_infinite_number, reaches_infinity, one_decimal};
+ghost use Rattle.mps_read.specs.Kinds.{all_pairs, is_pair_numeral};
+ghost use Rattle.mps_read.specs.Seen.{IsField, IsPair, IsSecond, seen_pair, seen_second};
 
-fn all_digits(bytes: &[u8]) -> bool
-    ensures { result ≡ list_all is_digit bytes.now }
+use crate::line::FieldPair;
+use ip_core::Decimal;
+
+/// The decimal of a numeral, or None where the bytes aren't one.
+pub fn read_numeral(bytes: &[u8]) -> Option<Decimal>
+    requires { length bytes.now ≤ 2 ^ 30 }
+    ensures { MatchOption result (is_numeral bytes.now ≡ false) (λ d. (is_numeral bytes.now ≡ true) × (d ≡ decimal_of bytes.now)) }
 {
-    bytes.iter().all(|&byte| 48 <= byte && byte <= 57)
+    match Decimal::read(bytes) {
+        Ok(value) => Some(value),
+        Err(_) => None,
+    }
 }
 
-/// The number that one to six decimal digits stand for.
-pub fn read_digits(bytes: &[u8]) -> Option<u32>
-    ensures value { result ≡ digits bytes.now }
-    ensures small { IfSome result (λ n. n ≤ 999999) }
+/// Whether a decimal is 0.
+pub fn is_zero(value: Decimal) -> bool
+    ensures { result ≡ is_zero_number value }
 {
-    if bytes.is_empty() || bytes.len() > 6 || !all_digits(bytes) {
-        return None;
-    }
-    let mut number: u32 = 0;
-    for byte in bytes {
-        number = number * 10 + u32::from(*byte - 48);
-    }
-    Some(number)
+    value.mantissa() == 0
 }
 
-/// The same after a `-` or without one.
-pub fn read_number(bytes: &[u8]) -> Option<i64>
-    ensures value { result ≡ number bytes.now }
-    ensures small { IfSome result (λ n. unsigned_abs n ≤ 999999) }
+/// The number 1.
+pub fn one() -> Decimal
+    ensures { result ≡ one_decimal }
 {
-    match bytes {
-        [] => None,
-        [b'-', rest @ ..] => {
-            let size = read_digits(rest)?;
-            Some(-i64::from(size))
-        }
-        [_, ..] => {
-            let size = read_digits(bytes)?;
-            Some(i64::from(size))
-        }
+    match Decimal::read(b"1") {
+        Ok(value) => value,
+        Err(_) => unreachable!(),
     }
+}
+
+/// Whether a mantissa of at most 18 digits times ten to an exponent is 10^20 or more.
+fn reaches_infinity(mantissa: i64, exponent: i16) -> bool
+    requires { unsigned_abs mantissa < 10 ^ 18 }
+    ensures { result ≡ reaches_infinity mantissa exponent }
+{
+    if mantissa <= 0 {
+        return false;
+    }
+    if exponent < 0 {
+        return false;
+    }
+    if exponent >= 20 {
+        return true;
+    }
+    u128::from(mantissa as u64) * 10u128.pow(exponent as u32) >= 100_000_000_000_000_000_000
+}
+
+/// Whether a decimal is 10^20 or more, which stands for no bound.
+pub fn is_infinite(value: Decimal) -> bool
+    ensures { result ≡ is_infinite_number value }
+{
+    reaches_infinity(value.mantissa(), value.exponent())
 }

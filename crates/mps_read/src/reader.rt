@@ -1,87 +1,134 @@
-ghost use Rattle.std.specs.Prelude.{◌≡◌, ◌≤◌, ◌^◌, pos, false, length, IfOk, MatchResult};
-ghost use Rattle.ip_core.specs.Sides.{HasNoEmpty};
-ghost use Rattle.mps_read.specs.Forms.{line_of};
-ghost use Rattle.mps_read.specs.Readings.{Reads};
+ghost use Rattle.std.specs.Prelude.{◌≡◌, ◌≤◌, ◌<◌, ◌^◌, length, IfOk, MatchResult};
+ghost use Rattle.mps_read.specs.Forms.{form_of, data_form};
+ghost use Rattle.mps_read.specs.Readings.{Reads, model_of, name_or_empty as name_or_empty_of};
 ghost use Rattle.mps_read.specs.Outcomes.{IsOutcome, IsCause};
+ghost use Rattle.mps_read.specs.Seen.{seen, AreFields};
 ghost use Rattle.mps_read.specs.Judges.{Judges};
-ghost use Rattle.mps_read.specs.Plain.{IsPlainOutcome};
 ghost use Rattle.mps_read.specs.Drafts.{IsDraft};
 
-use crate::PlainError;
 use crate::bound::take_bounds;
 use crate::draft::{Draft, Judgement};
-use crate::entry::take_integers;
-use crate::finish::finish;
-use crate::line::{cut, fields_of, is_data, is_text};
-use crate::place::Place;
-use crate::row_line::{take_more_rows, take_objective};
-use crate::section::{take_begin, take_closed, take_rows, take_title};
-use crate::side::take_rhs;
-use ip_core::{Model, OutOfMemory};
+use crate::entry::take_columns;
+use crate::error::{MpsError, MpsKind};
+use crate::head::{take_head, take_sense};
+use crate::line::{Fields, fields_of, is_comment, is_data, is_text, next_line};
+use crate::model::MpsModel;
+use crate::name::empty_name;
+use crate::row_line::take_rows;
+use crate::section::{Section, ValueKind};
+use crate::value::take_values;
+use ip_core::{Name, OutOfMemory};
 use std::alloc::Global;
 
 /// What a text is.
 #[derive(Drop)]
 pub enum Outcome {
-    Read(Model),
-    RefusedAt(u32),
+    Read(MpsModel),
+    RefusedAt(u32, MpsKind),
+}
+
+/// A data line, by the section that it stands in.
+fn take_data(alloc: Global, draft: &mut Draft, fields: Fields<'_>) -> Result<Judgement, OutOfMemory>
+    requires draft { IsDraft draft.old }
+    requires few_rows { draft.old.kept < 2 ^ 31 }
+    requires few_columns { length draft.old.column_names < 2 ^ 31 }
+    requires fields { AreFields (seen fields) }
+    ensures { IfOk result (λ j. Judges j draft.old (data_form draft.old.section draft.old.has_sense_line (seen fields.entry)) draft.new) }
+{
+    match draft.section {
+        None | Some(Section::Name | Section::Endata) => {
+            Ok(Judgement::Refused(MpsKind::SectionOrder))
+        }
+        Some(Section::Objsense) => {
+            if draft.has_sense_line {
+                return Ok(Judgement::Refused(MpsKind::SectionOrder));
+            }
+            Ok(take_sense(draft, fields))
+        }
+        Some(Section::Rows) => take_rows(alloc, draft, fields),
+        Some(Section::Columns) => take_columns(alloc, draft, fields),
+        Some(Section::Rhs) => take_values(alloc, draft, ValueKind::Side, fields),
+        Some(Section::Ranges) => take_values(alloc, draft, ValueKind::Range, fields),
+        Some(Section::Bounds) => take_bounds(alloc, draft, fields),
+    }
 }
 
 /// Takes one more line into the draft, if it is allowed there.
 fn take_line(alloc: Global, draft: &mut Draft, line: &[u8]) -> Result<Judgement, OutOfMemory>
-    requires { IsDraft draft.old }
-    ensures judged { IfOk result (λ j. Judges j draft.old (line_of draft.old.place line.now) draft.new) }
-    ensures kept { IfOk result (λ j. IsDraft draft.new) }
+    requires draft { IsDraft draft.old }
+    requires few_rows { draft.old.kept < 2 ^ 31 }
+    requires few_columns { length draft.old.column_names < 2 ^ 31 }
+    requires short { length line.now ≤ 2 ^ 30 }
+    ensures { IfOk result (λ j. Judges j draft.old (form_of draft.old.section draft.old.has_sense_line line.now) draft.new) }
 {
-    if !is_text(line) {
-        return Ok(Judgement::Refused);
+    if is_comment(line) {
+        return Ok(Judgement::Taken);
     }
-    let data_line = is_data(line);
+    if !is_text(line) {
+        return Ok(Judgement::Refused(MpsKind::BadByte));
+    }
     let fields = fields_of(line);
-    match draft.place {
-        Place::Start => take_title(alloc, draft, data_line, fields),
-        Place::Named => Ok(take_rows(draft, data_line, fields)),
-        Place::Rows => take_objective(alloc, draft, data_line, fields),
-        Place::MoreRows => take_more_rows(alloc, draft, data_line, fields),
-        Place::Columns => Ok(take_begin(draft, data_line, fields)),
-        Place::Integers => take_integers(alloc, draft, data_line, fields),
-        Place::Closed => Ok(take_closed(draft, data_line, fields)),
-        Place::Rhs => take_rhs(alloc, draft, data_line, fields),
-        Place::Bounds => take_bounds(alloc, draft, data_line, fields),
+    if fields.is_empty() {
+        return Ok(Judgement::Taken);
+    }
+    if is_data(line) {
+        return take_data(alloc, draft, fields);
+    }
+    take_head(alloc, draft, fields)
+}
+
+/// A name, or that of no byte.
+fn name_or_empty(alloc: Global, name: Option<Name>) -> Name
+    ensures { result ≡ name_or_empty_of name }
+{
+    match name {
+        Some(name) => name,
+        None => empty_name(alloc),
+    }
+}
+
+/// The model of what was read.
+fn finish(alloc: Global, draft: Draft) -> MpsModel
+    ensures { result ≡ model_of draft }
+{
+    MpsModel {
+        name: draft.name,
+        maximise: draft.maximise.unwrap_or(false),
+        objective: name_or_empty(alloc, draft.objective),
+        constant: draft.constant,
+        rows: draft.rows,
+        cols: draft.cols,
     }
 }
 
 /// Reads the lines in order to the end of the file, or to the first that isn't allowed.
 fn read_lines(alloc: Global, bytes: &[u8]) -> Result<Outcome, OutOfMemory>
     requires { length bytes.now ≤ 2 ^ 30 }
-    ensures found { IfOk result (λ outcome. IsOutcome bytes.now outcome) }
-    ensures plain { IfOk result (λ outcome. IsPlainOutcome outcome) }
+    ensures { IfOk result (λ outcome. IsOutcome bytes.now outcome) }
 {
     let mut draft = Draft::new(alloc);
     let mut rest = bytes;
     let mut number: u32 = 1;
-    while let Some((line, after)) = cut(rest, b'\n') {
+    while let Some((line, after)) = next_line(rest) {
         match take_line(alloc, &mut draft, line)? {
-            Judgement::Refused => return Ok(Outcome::RefusedAt(number)),
-            Judgement::Ended => return Ok(Outcome::Read(finish(alloc, draft)?)),
+            Judgement::Refused(kind) => return Ok(Outcome::RefusedAt(number, kind)),
+            Judgement::Ended => return Ok(Outcome::Read(finish(alloc, draft))),
             Judgement::Taken => {}
         }
         rest = after;
         number += 1;
     }
-    Ok(Outcome::RefusedAt(number))
+    Ok(Outcome::RefusedAt(number, MpsKind::NoEndata))
 }
 
-/// Reads a plain file: a model, or the first line that isn't allowed given the lines before it. Lines after `ENDATA`
-/// aren't read. Only memory can end it otherwise.
-pub fn read_plain(alloc: Global, bytes: &[u8]) -> Result<Model, PlainError>
+/// Reads a file: its model, or the first line that isn't allowed given all lines before it, with the first kind that
+/// applies to it. Lines after `ENDATA` aren't read. Only memory can end it otherwise.
+pub fn read(alloc: Global, bytes: &[u8]) -> Result<MpsModel, MpsError>
     requires { length bytes.now ≤ 2 ^ 30 }
     ensures answer { MatchResult result (λ m. Reads bytes.now m) (λ e. IsCause bytes.now e) }
-    ensures whole { IfOk result (λ m. (m.decimals ≡ 0) × (m.maximise ≡ false) × (m.constant ≡ pos 0)) }
-    ensures bounded { IfOk result (λ m. HasNoEmpty m.root) }
 {
     match read_lines(alloc, bytes)? {
         Outcome::Read(model) => Ok(model),
-        Outcome::RefusedAt(line) => Err(PlainError::Refused { line }),
+        Outcome::RefusedAt(line, kind) => Err(MpsError::Refused { line, kind }),
     }
 }

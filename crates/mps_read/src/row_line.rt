@@ -1,96 +1,110 @@
-ghost use Rattle.std.specs.Prelude.{◌≡◌, IfOk};
-ghost use Rattle.mps_read.specs.Forms.{objective_form, more_rows_form, is_row as is_row_of, RowLine, Single};
-ghost use Rattle.mps_read.specs.Seen.{seen};
+ghost use Rattle.std.specs.Prelude.{◌≡◌, ◌<◌, ◌^◌, true, false, IfOk, IfNone};
+ghost use Rattle.mps_read.specs.Names.{is_among, is_long as is_long_name};
+ghost use Rattle.mps_read.specs.Forms.{rows_form, FreeRow, KeptRow, marker_word};
+ghost use Rattle.mps_read.specs.Kinds.{kind_of};
+ghost use Rattle.mps_read.specs.Seen.{seen, AreFields, IsField};
 ghost use Rattle.mps_read.specs.Judges.{Judges};
-ghost use Rattle.mps_read.specs.Drafts.{IsDraft};
 
-use crate::draft::{Draft, Judgement};
+use crate::draft::{Draft, Judgement, RowPlace, RowState};
+use crate::error::MpsKind;
 use crate::line::Fields;
-use crate::place::Place;
-use crate::row::{RowKind, RowLimit};
-use crate::section::{is_head, is_word};
-use crate::short_name::is_short;
-use ip_core::OutOfMemory;
+use crate::model::{MpsRow, RowKind};
+use crate::name::{is_long, name_of};
+use crate::section::{is_word, row_kind_named};
+use ip_core::{Decimal, OutOfMemory};
 use std::alloc::Global;
 
-/// The most rows of a plain file, that of the objective among them.
-const MAX_PLAIN_ROWS: usize = 65;
-
-/// Whether a data line has this kind of row, with a name.
-fn is_row(data_line: bool, kind: &[u8], word: &[u8], name: &[u8]) -> bool
-    ensures { result ≡ is_row_of data_line kind.now word.now name.now }
+/// Why a row may not have this name, if it may not.
+fn name_kind(draft: &Draft, name: &[u8]) -> Option<MpsKind>
+    ensures kind { result ≡ kind_of draft.now (FreeRow name.now) }
+    ensures new { IfNone result (is_among name.now draft.now.row_names ≡ false) }
+    ensures short { IfNone result (is_long_name name.now ≡ false) }
 {
-    data_line && is_word(kind, word) && is_short(name)
+    if draft.row_names.find(name).is_some() {
+        return Some(MpsKind::RepeatedName);
+    }
+    if is_word(name, b"'MARKER'") {
+        return Some(MpsKind::Marker);
+    }
+    if is_long(name) {
+        return Some(MpsKind::LongName);
+    }
+    None
 }
 
-/// A row of some kind, without a right-hand side yet.
-fn take_row(
+/// What the next row without right-hand side stands for: the objective is the first of them.
+fn take_free(alloc: Global, draft: &mut Draft, name: &[u8]) -> Result<Judgement, OutOfMemory>
+    requires { IsField name.now }
+    ensures { IfOk result (λ j. Judges j draft.old (FreeRow name.now) draft.new) }
+{
+    if let Some(kind) = name_kind(draft, name) {
+        return Ok(Judgement::Refused(kind));
+    }
+    draft.row_names.add(alloc, name)?;
+    draft.latest.push(0)?;
+    let place = if draft.objective.is_none() {
+        draft.objective = Some(name_of(alloc, name)?);
+        RowPlace::Objective
+    } else {
+        RowPlace::Dropped
+    };
+    draft.row_states.push(RowState {
+        place,
+        has_side: false,
+        has_range: false,
+    })?;
+    Ok(Judgement::Taken)
+}
+
+/// A row of the model.
+fn take_kept(
     alloc: Global,
     draft: &mut Draft,
     kind: RowKind,
     name: &[u8],
 ) -> Result<Judgement, OutOfMemory>
-    requires { IsDraft draft.old }
-    ensures judged { IfOk result (λ j. Judges j draft.old (Single (RowLine kind name.now)) draft.new) }
-    ensures kept { IfOk result (λ j. IsDraft draft.new) }
+    requires few { draft.old.kept < 2 ^ 31 }
+    requires field { IsField name.now }
+    ensures { IfOk result (λ j. Judges j draft.old (KeptRow kind name.now) draft.new) }
 {
-    if draft.rows.find(name).is_some() || draft.rows.len() >= MAX_PLAIN_ROWS {
-        return Ok(Judgement::Refused);
+    if let Some(refusal) = name_kind(draft, name) {
+        return Ok(Judgement::Refused(refusal));
     }
-    draft.rows.add(alloc, name)?;
-    draft.limits.push(RowLimit { kind, side: None })?;
-    draft.place = Place::MoreRows;
+    draft.row_names.add(alloc, name)?;
+    draft.latest.push(0)?;
+    draft.row_states.push(RowState {
+        place: RowPlace::Kept(draft.kept),
+        has_side: false,
+        has_range: false,
+    })?;
+    draft.rows.push(MpsRow {
+        name: name_of(alloc, name)?,
+        kind,
+        rhs: Decimal::zero(),
+        range: None,
+    })?;
+    draft.kept += 1;
     Ok(Judgement::Taken)
 }
 
-/// The row of the objective: `N` and a name.
-pub fn take_objective(
+/// A line of rows: a type and a name.
+pub fn take_rows(
     alloc: Global,
     draft: &mut Draft,
-    data_line: bool,
     fields: Fields<'_>,
 ) -> Result<Judgement, OutOfMemory>
-    requires { IsDraft draft.old }
-    ensures judged { IfOk result (λ j. Judges j draft.old (Single (objective_form data_line (seen fields.entry))) draft.new) }
-    ensures kept { IfOk result (λ j. IsDraft draft.new) }
+    requires few { draft.old.kept < 2 ^ 31 }
+    requires fields { AreFields (seen fields) }
+    ensures { IfOk result (λ j. Judges j draft.old (rows_form (seen fields.entry)) draft.new) }
 {
-    let Fields::Pair(kind, name) = fields else {
-        return Ok(Judgement::Refused);
+    let Fields::Double(kind, name) = fields else {
+        return Ok(Judgement::Refused(MpsKind::FieldCount));
     };
-    if !is_row(data_line, kind, b"N", name) {
-        return Ok(Judgement::Refused);
+    if is_word(kind, b"N") {
+        return take_free(alloc, draft, name);
     }
-    take_row(alloc, draft, RowKind::Free, name)
-}
-
-/// A row of at most or of at least, or the section of columns.
-pub fn take_more_rows(
-    alloc: Global,
-    draft: &mut Draft,
-    data_line: bool,
-    fields: Fields<'_>,
-) -> Result<Judgement, OutOfMemory>
-    requires { IsDraft draft.old }
-    ensures judged { IfOk result (λ j. Judges j draft.old (Single (more_rows_form data_line (seen fields.entry))) draft.new) }
-    ensures kept { IfOk result (λ j. IsDraft draft.new) }
-{
-    match fields {
-        Fields::Pair(kind, name) => {
-            if is_row(data_line, kind, b"L", name) {
-                return take_row(alloc, draft, RowKind::AtMost, name);
-            }
-            if is_row(data_line, kind, b"G", name) {
-                return take_row(alloc, draft, RowKind::AtLeast, name);
-            }
-            Ok(Judgement::Refused)
-        }
-        Fields::Single(head) => {
-            if !is_head(data_line, head, b"COLUMNS") {
-                return Ok(Judgement::Refused);
-            }
-            draft.place = Place::Columns;
-            Ok(Judgement::Taken)
-        }
-        _ => Ok(Judgement::Refused),
+    match row_kind_named(kind) {
+        Some(kind) => take_kept(alloc, draft, kind, name),
+        None => Ok(Judgement::Refused(MpsKind::RowType)),
     }
 }

@@ -1,18 +1,53 @@
-ghost use Rattle.std.specs.Prelude.{◌≡◌, codes, IfOk};
+ghost use Rattle.std.specs.Prelude.{◌≡◌};
 ghost use Rattle.std.specs.Str.{bytes_eq};
-ghost use Rattle.mps_read.specs.Forms.{title_form, rows_form, begin_form, closed_form, form_when, BoundsHead, Single};
-ghost use Rattle.mps_read.specs.Forms.{is_head as is_head_of, is_marker as is_marker_of};
-ghost use Rattle.mps_read.specs.Rules.{is_same_set as is_same_set_of};
-ghost use Rattle.mps_read.specs.Seen.{seen};
-ghost use Rattle.mps_read.specs.Judges.{Judges};
-ghost use Rattle.mps_read.specs.Drafts.{IsDraft};
+ghost use Rattle.mps_read.specs.Forms.{section_named as section_of_name, bound_named as bound_of_name, row_kind_named as row_kind_of_name, has_numeral as is_with_numeral, is_end, Head};
+ghost use Rattle.mps_read.specs.Facts.{sense_named as sense_of_name};
+ghost use Rattle.mps_read.specs.Kinds.{rank_of};
 
-use crate::draft::{Draft, Judgement};
-use crate::line::Fields;
-use crate::place::Place;
-use crate::short_name::short_name;
-use ip_core::{Name, OutOfMemory};
-use std::alloc::Global;
+use crate::model::RowKind;
+
+/// A section of a file.
+#[derive(Clone, Copy, Debug, PartialEq, Eq)]
+pub enum Section {
+    Name,
+    Objsense,
+    Rows,
+    Columns,
+    Rhs,
+    Ranges,
+    Bounds,
+    Endata,
+}
+
+/// What the values of a section are: right-hand sides or ranges.
+#[derive(Clone, Copy, Debug, PartialEq, Eq)]
+pub enum ValueKind {
+    Side,
+    Range,
+}
+
+/// The type of a bound line.
+#[derive(Clone, Copy, Debug, PartialEq, Eq)]
+pub enum BoundKind {
+    /// `LO`: the low.
+    Lower,
+    /// `UP`: the high.
+    Upper,
+    /// `FX`: both sides.
+    Fixed,
+    /// `LI`: the low of an integer column.
+    IntegerLower,
+    /// `UI`: the high of an integer column.
+    IntegerUpper,
+    /// `FR`: both sides are free.
+    Free,
+    /// `MI`: the low is free.
+    NoLower,
+    /// `PL`: the high is free.
+    NoUpper,
+    /// `BV`: an integer column from 0 to 1.
+    Binary,
+}
 
 /// Whether a field is this word.
 pub fn is_word(field: &[u8], word: &[u8]) -> bool
@@ -21,112 +56,127 @@ pub fn is_word(field: &[u8], word: &[u8]) -> bool
     field == word
 }
 
-/// Whether a line whose only or first field is this one begins a section of this name.
-pub fn is_head(data_line: bool, field: &[u8], word: &[u8]) -> bool
-    ensures { result ≡ is_head_of data_line field.now word.now }
+/// The section of a name.
+pub fn section_named(word: &[u8]) -> Option<Section>
+    ensures { result ≡ section_of_name word.now }
 {
-    !data_line && is_word(field, word)
-}
-
-/// Whether a data line with these second and third fields is a marker of this kind.
-pub fn is_marker(data_line: bool, field: &[u8], kind: &[u8], word: &[u8]) -> bool
-    ensures { result ≡ is_marker_of data_line field.now kind.now word.now }
-{
-    data_line && is_word(field, b"'MARKER'") && is_word(kind, word)
-}
-
-/// Whether a line's set is that of the section's first line, if there is one.
-pub fn is_same_set(first: &Option<Name>, set: &[u8]) -> bool
-    ensures { result ≡ is_same_set_of first.now set.now }
-{
-    match first {
-        None => true,
-        Some(name) => is_word(set, name.text().as_slice()),
+    if is_word(word, b"NAME") {
+        Some(Section::Name)
+    } else if is_word(word, b"OBJSENSE") {
+        Some(Section::Objsense)
+    } else if is_word(word, b"ROWS") {
+        Some(Section::Rows)
+    } else if is_word(word, b"COLUMNS") {
+        Some(Section::Columns)
+    } else if is_word(word, b"RHS") {
+        Some(Section::Rhs)
+    } else if is_word(word, b"RANGES") {
+        Some(Section::Ranges)
+    } else if is_word(word, b"BOUNDS") {
+        Some(Section::Bounds)
+    } else if is_word(word, b"ENDATA") {
+        Some(Section::Endata)
+    } else {
+        None
     }
 }
 
-/// `NAME` and the model's name.
-pub fn take_title(
-    alloc: Global,
-    draft: &mut Draft,
-    data_line: bool,
-    fields: Fields<'_>,
-) -> Result<Judgement, OutOfMemory>
-    requires { IsDraft draft.old }
-    ensures judged { IfOk result (λ j. Judges j draft.old (Single (title_form data_line (seen fields.entry))) draft.new) }
-    ensures kept { IfOk result (λ j. IsDraft draft.new) }
+/// How far a file is after a section, or before any.
+pub fn rank(section: Option<Section>) -> u32
+    ensures { result ≡ rank_of section }
 {
-    let Fields::Pair(head, name) = fields else {
-        return Ok(Judgement::Refused);
-    };
-    if !is_head(data_line, head, b"NAME") {
-        return Ok(Judgement::Refused);
+    match section {
+        None => 0,
+        Some(Section::Name) => 1,
+        Some(Section::Objsense) => 2,
+        Some(Section::Rows) => 3,
+        Some(Section::Columns) => 4,
+        Some(Section::Rhs | Section::Ranges | Section::Bounds) => 5,
+        Some(Section::Endata) => 6,
     }
-    let Some(name) = short_name(alloc, name)? else {
-        return Ok(Judgement::Refused);
-    };
-    draft.name = name;
-    draft.place = Place::Named;
-    Ok(Judgement::Taken)
 }
 
-/// The section of rows.
-pub fn take_rows(draft: &mut Draft, data_line: bool, fields: Fields<'_>) -> Judgement
-    requires { IsDraft draft.old }
-    ensures judged { Judges result draft.old (Single (rows_form data_line (seen fields.entry))) draft.new }
-    ensures kept { IsDraft draft.new }
+/// Whether a section ends the file.
+pub fn is_last(section: Section, word: &[u8]) -> bool
+    ensures { result ≡ is_end (Head section word.now) }
 {
-    let Fields::Single(head) = fields else {
-        return Judgement::Refused;
-    };
-    if !is_head(data_line, head, b"ROWS") {
-        return Judgement::Refused;
+    match section {
+        Section::Endata => true,
+        Section::Name
+        | Section::Objsense
+        | Section::Rows
+        | Section::Columns
+        | Section::Rhs
+        | Section::Ranges
+        | Section::Bounds => false,
     }
-    draft.place = Place::Rows;
-    Judgement::Taken
 }
 
-/// The marker before the integer columns.
-pub fn take_begin(draft: &mut Draft, data_line: bool, fields: Fields<'_>) -> Judgement
-    requires { IsDraft draft.old }
-    ensures judged { Judges result draft.old (Single (begin_form data_line (seen fields.entry))) draft.new }
-    ensures kept { IsDraft draft.new }
+/// Whether a word says to maximise, if it is a sense.
+pub fn sense_named(word: &[u8]) -> Option<bool>
+    ensures { result ≡ sense_of_name word.now }
 {
-    let Fields::Triple(_, field, kind) = fields else {
-        return Judgement::Refused;
-    };
-    if !is_marker(data_line, field, kind, b"'INTORG'") {
-        return Judgement::Refused;
+    if is_word(word, b"MAX") || is_word(word, b"MAXIMIZE") {
+        Some(true)
+    } else if is_word(word, b"MIN") || is_word(word, b"MINIMIZE") {
+        Some(false)
+    } else {
+        None
     }
-    draft.place = Place::Integers;
-    Judgement::Taken
 }
 
-/// The section of bounds.
-pub fn take_bounds_head(draft: &mut Draft, data_line: bool, head: &[u8]) -> Judgement
-    requires { IsDraft draft.old }
-    ensures judged { Judges result draft.old (Single (form_when (is_head_of data_line head.now (codes "BOUNDS")) BoundsHead)) draft.new }
-    ensures kept { IsDraft draft.new }
+/// The kind of a row of the model.
+pub fn row_kind_named(word: &[u8]) -> Option<RowKind>
+    ensures { result ≡ row_kind_of_name word.now }
 {
-    if !is_head(data_line, head, b"BOUNDS") {
-        return Judgement::Refused;
+    if is_word(word, b"L") {
+        Some(RowKind::Less)
+    } else if is_word(word, b"G") {
+        Some(RowKind::Greater)
+    } else if is_word(word, b"E") {
+        Some(RowKind::Equal)
+    } else {
+        None
     }
-    draft.place = Place::Bounds;
-    Judgement::Taken
 }
 
-/// The section of right-hand sides or that of bounds, after the columns.
-pub fn take_closed(draft: &mut Draft, data_line: bool, fields: Fields<'_>) -> Judgement
-    requires { IsDraft draft.old }
-    ensures judged { Judges result draft.old (Single (closed_form data_line (seen fields.entry))) draft.new }
-    ensures kept { IsDraft draft.new }
+/// The bound of a type.
+pub fn bound_named(word: &[u8]) -> Option<BoundKind>
+    ensures { result ≡ bound_of_name word.now }
 {
-    let Fields::Single(head) = fields else {
-        return Judgement::Refused;
-    };
-    if is_head(data_line, head, b"RHS") {
-        draft.place = Place::Rhs;
-        return Judgement::Taken;
+    if is_word(word, b"LO") {
+        Some(BoundKind::Lower)
+    } else if is_word(word, b"UP") {
+        Some(BoundKind::Upper)
+    } else if is_word(word, b"FX") {
+        Some(BoundKind::Fixed)
+    } else if is_word(word, b"LI") {
+        Some(BoundKind::IntegerLower)
+    } else if is_word(word, b"UI") {
+        Some(BoundKind::IntegerUpper)
+    } else if is_word(word, b"FR") {
+        Some(BoundKind::Free)
+    } else if is_word(word, b"MI") {
+        Some(BoundKind::NoLower)
+    } else if is_word(word, b"PL") {
+        Some(BoundKind::NoUpper)
+    } else if is_word(word, b"BV") {
+        Some(BoundKind::Binary)
+    } else {
+        None
     }
-    take_bounds_head(draft, data_line, head)
+}
+
+/// Whether a bound has a numeral.
+pub fn has_numeral(kind: BoundKind) -> bool
+    ensures { result ≡ is_with_numeral kind }
+{
+    match kind {
+        BoundKind::Lower
+        | BoundKind::Upper
+        | BoundKind::Fixed
+        | BoundKind::IntegerLower
+        | BoundKind::IntegerUpper => true,
+        BoundKind::Free | BoundKind::NoLower | BoundKind::NoUpper | BoundKind::Binary => false,
+    }
 }

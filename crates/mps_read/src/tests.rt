@@ -1,157 +1,355 @@
-use crate::{PlainError, read_plain};
-use ip_core::{OutOfMemory, Term};
+use crate::{MpsError, MpsKind, read};
+use ip_core::OutOfMemory;
 use std::alloc::Global;
 use std::test::Fail;
 
-/// Files with the line at which each is refused.
-const REFUSED: [(&str, u32); 30] = [
-    ("", 1),
-    ("\n", 1),
-    ("ROWS\n", 1),
-    ("NAME\n", 1),
-    ("NAME T3 x\n", 1),
-    (" NAME T3\n", 1),
-    ("NAME\tT3\n", 1),
-    ("NAME ninebytes\n", 1),
-    ("* a comment\nNAME T3\n", 1),
-    ("NAME T3\n\nROWS\n", 2),
-    ("NAME T3\nROWS x\n", 2),
-    ("NAME T3\n ROWS\n", 2),
-    ("NAME T3\nROWS\nCOLUMNS\n", 3),
-    ("NAME T3\nROWS\n L a\n", 3),
-    ("NAME T3\nROWS\n N ninebytes\n", 3),
-    ("NAME T3\nROWS\n N c\n N d\n", 4),
-    ("NAME T3\nROWS\n N c\n E a\n", 4),
-    ("NAME T3\nROWS\n N c\n L c\n", 4),
-    ("NAME T3\nROWS\n N c\nL a\n", 4),
-    ("NAME T3\nROWS\n N c\nUP L r0\n", 4),
-    ("NAME T3\nROWS\n N c\n L ninebytes\n", 4),
-    ("NAME T3\nROWS\n N c\n L a b\n", 4),
-    ("NAME T3\nROWS\n N c\n L a\n G a\n", 5),
-    ("NAME T3\nROWS\n N c\n L a\n N d\n", 5),
-    ("NAME T3\nROWS\n N c\n L a\nRHS\n", 5),
-    ("NAME T3\nROWS\n N c\nCOLUMNS\n x c 1\n", 5),
-    ("NAME T3\nROWS\n N c\nCOLUMNS\nRHS\n", 5),
-    ("NAME T3\nROWS\n N c\nCOLUMNS\n M 'MARKER' 'INTEND'\n", 5),
-    ("NAME T3\nROWS\n N c\n L a", 4),
-    ("NAME T3\nROWS\n N c\n L a\n", 5),
+/// Files refused in their header or by the order of sections. Here and below `@` stands for a name of 256 bytes.
+const HEADERS: [(&str, u32, MpsKind); 38] = [
+    ("", 1, MpsKind::NoEndata),
+    ("\n\n", 3, MpsKind::NoEndata),
+    ("NAME T", 2, MpsKind::NoEndata),
+    ("OBJSENSE\n", 2, MpsKind::NoEndata),
+    ("ROWS\n N c\x0b\n", 2, MpsKind::BadByte),
+    ("\x7f", 1, MpsKind::BadByte),
+    ("\x00\n", 1, MpsKind::BadByte),
+    ("NAME T\x0c\n", 1, MpsKind::BadByte),
+    (" *\x01\n", 1, MpsKind::BadByte),
+    (" x\n", 1, MpsKind::SectionOrder),
+    ("\rROWS\n", 1, MpsKind::SectionOrder),
+    ("NAME T\n\n* note\n x\n", 4, MpsKind::SectionOrder),
+    ("OBJSENSE\n MAX\n MAX\n", 3, MpsKind::SectionOrder),
+    ("NAME T\nNAME T\n", 2, MpsKind::SectionOrder),
+    ("OBJSENSE MAX\nNAME T\n", 2, MpsKind::SectionOrder),
+    ("OBJSENSE MAX\nOBJSENSE MAX\n", 2, MpsKind::SectionOrder),
+    ("ROWS\n N c\nOBJSENSE MAX\n", 3, MpsKind::SectionOrder),
+    ("ROWS\nROWS\n", 2, MpsKind::SectionOrder),
+    ("COLUMNS\n", 1, MpsKind::SectionOrder),
+    ("NAME T\nRHS\n", 2, MpsKind::SectionOrder),
+    ("ROWS\n N c\nRANGES\n", 3, MpsKind::SectionOrder),
+    ("ROWS\n N c\nBOUNDS\n", 3, MpsKind::SectionOrder),
+    ("ROWS\n N c\nENDATA\n", 3, MpsKind::SectionOrder),
+    (
+        "ROWS\n N c\n L a\n G b\nCOLUMNS\nCOLUMNS\n",
+        6,
+        MpsKind::SectionOrder,
+    ),
+    (
+        "ROWS\n N c\n L a\n G b\nCOLUMNS\nROWS\n",
+        6,
+        MpsKind::SectionOrder,
+    ),
+    (
+        "ROWS\n N c\n L a\n G b\nCOLUMNS\nRHS\nRANGES\nRHS\n",
+        8,
+        MpsKind::SectionOrder,
+    ),
+    (
+        "ROWS\n N c\n L a\n G b\nCOLUMNS\nRANGES\nRANGES\n",
+        7,
+        MpsKind::SectionOrder,
+    ),
+    (
+        "ROWS\n N c\n L a\n G b\nCOLUMNS\nBOUNDS\nRHS\nBOUNDS\n",
+        8,
+        MpsKind::SectionOrder,
+    ),
+    ("rows\n", 1, MpsKind::UnknownSection),
+    ("NAME T\nOBJSENSE: MAX\n", 2, MpsKind::UnknownSection),
+    ("'MARKER'\n", 1, MpsKind::UnknownSection),
+    ("NAME @\n", 1, MpsKind::LongName),
+    ("OBJSENSE max\n", 1, MpsKind::Sense),
+    ("OBJSENSE\n BIG\n", 2, MpsKind::Sense),
+    ("OBJSENSE MAX\n MAX\n", 2, MpsKind::Sense),
+    ("OBJSENSE\nROWS\n", 2, MpsKind::Sense),
+    ("ROWS\n L a\nCOLUMNS\n", 3, MpsKind::NoObjective),
+    ("ROWS\nCOLUMNS\n", 2, MpsKind::NoObjective),
 ];
 
-/// The first seven lines of the files below: rows c, a of at most and b of at least.
-const HEAD: &str = "NAME T\nROWS\n N c\n L a\n G b\nCOLUMNS\n M 'MARKER' 'INTORG'\n";
-
-/// What follows these lines, with the line at which each file is refused.
-const REFUSED_LATER: [(&str, u32); 40] = [
-    (" x d 1\n", 8),
-    (" x c 0\n", 8),
-    (" x a -0\n", 8),
-    (" x c +1\n", 8),
-    (" x c 1000000\n", 8),
-    (" x c 1 a\n", 8),
-    (" x c 1 a 2 b 3\n", 8),
-    (" x a 1 a 2\n", 8),
-    (" x c 1 a 0\n", 8),
-    (" x c 1 M 'MARKER' 'INTEND'\n", 8),
-    ("x c 1\n", 8),
-    ("ENDATA\n", 8),
-    (" x c 1\n x c 2\n", 9),
-    (" x c 1 a 2\n x b 3 a 4\n", 9),
-    (" x c 1\n y c 1\n x a 1\n", 10),
-    (" x c 1\n M 'MARKER' 'INTEND'\n x a 1\n", 10),
-    (" x c 1\n M 'MARKER' 'INTEND'\n M 'MARKER' 'INTEND'\n", 10),
-    (" x c 1\nRHS x\n", 9),
-    (" x c 1\nRHS\nRHS\n", 10),
-    (" x c 1\nRHS\nENDATA\n", 10),
-    (" x c 1\nRHS\n r c 1\n", 10),
-    (" x c 1\nRHS\n r d 1\n", 10),
-    (" x c 1\nRHS\n a 1\n", 10),
-    (" x c 1\nRHS\n r a 1.5\n", 10),
-    (" x c 1\nRHS\n r a 1 a 1\n", 10),
-    (" x c 1\nRHS\n r a 1 c 0\n", 10),
-    (" x c 1\nRHS\n r a 0\n r b 1 a 1\n", 11),
-    (" x c 1\nRHS\n r a 1\n s b 1\n", 11),
-    (" x c 1\nRHS\n r a 1\nCOLUMNS\n", 11),
-    (" x c 1\nBOUNDS\nRHS\n", 10),
-    (" x c 1\nBOUNDS\n UP b y 1\n", 10),
-    (" x c 1\nBOUNDS\n UP b x -1\n", 10),
-    (" x c 1\nBOUNDS\n BV b x 1\n", 10),
-    (" x c 1\nBOUNDS\n LO b x 1\n", 10),
-    (" x c 1\nBOUNDS\nENDATA\n", 10),
-    (" x c 1\nBOUNDS\n UP b x 1\n BV b x\n", 11),
-    (" x c 1\n y a 1\nBOUNDS\n UP b x 1\n BV d y\n", 12),
-    (" x c 1\nBOUNDS\n UP b x 1\nENDATA x\n", 11),
-    (" x c 1\nBOUNDS\n UP b x 1\nENDATA", 11),
-    (" x c 1\nBOUNDS\n UP b x", 10),
+/// Files refused in the header or among the rows.
+const ROWS: [(&str, u32, MpsKind); 10] = [
+    ("ROWS\n N\n", 2, MpsKind::FieldCount),
+    ("ROWS\n N c 1\n", 2, MpsKind::FieldCount),
+    ("OBJSENSE\n MAX MIN\n", 2, MpsKind::FieldCount),
+    ("ROWS\n n c\n", 2, MpsKind::RowType),
+    ("ROWS\n EQ c\n", 2, MpsKind::RowType),
+    ("ROWS\n N c\n L c\n", 3, MpsKind::RepeatedName),
+    ("ROWS\n N c\n N d\n N d\n", 4, MpsKind::RepeatedName),
+    ("ROWS\n N 'MARKER'\n", 2, MpsKind::Marker),
+    ("ROWS\n N @\n", 2, MpsKind::LongName),
+    ("ROWS\n N c\n N @\n", 3, MpsKind::LongName),
 ];
 
-/// The line at which a file is refused, or None where it is read.
-fn refused_line(alloc: Global, text: &str) -> Result<Option<u32>, OutOfMemory> {
-    let bytes = text.as_bytes();
+/// Rows c, a of at most and b of at least, and then the columns: five lines.
+const HEAD: &str = "ROWS\n N c\n L a\n G b\nCOLUMNS\n";
+
+/// What follows these lines in files refused among the columns.
+const COLUMNS: [(&str, u32, MpsKind); 23] = [
+    (" x\n", 6, MpsKind::FieldCount),
+    (" x c\n", 6, MpsKind::FieldCount),
+    (" x c 1 a\n", 6, MpsKind::FieldCount),
+    (" x c 1 a 2 b\n", 6, MpsKind::FieldCount),
+    (" M 'MARKER'\n", 6, MpsKind::FieldCount),
+    (" M 'MARKER' 'INTORG' x\n", 6, MpsKind::FieldCount),
+    (" M 'MARKER' 'INTORG' a 1\n", 6, MpsKind::FieldCount),
+    (" x c one\n", 6, MpsKind::Numeral),
+    (" x c 1 a 1e401\n", 6, MpsKind::Numeral),
+    (" x c 1 a 1.2.3\n", 6, MpsKind::Numeral),
+    (" x d 1\n", 6, MpsKind::UnknownName),
+    (" x c 1 'MARKER' 1\n", 6, MpsKind::UnknownName),
+    (" x c 1 d 1\n", 6, MpsKind::UnknownName),
+    (" x c 1 c 2\n", 6, MpsKind::RepeatedEntry),
+    (" x a 0\n x b 1 a 1\n", 7, MpsKind::RepeatedEntry),
+    (" x c 0\n x c 0\n", 7, MpsKind::RepeatedEntry),
+    (" x a 1\n x b 1\n x a 1\n", 8, MpsKind::RepeatedEntry),
+    (
+        " x a 1\n M 'MARKER' 'INTEND'\n x a 1\n",
+        8,
+        MpsKind::RepeatedEntry,
+    ),
+    (" x a 1\n y a 1\n x b 1\n", 8, MpsKind::SplitColumn),
+    (" x a 1\n y a 1\n y b 1\n x c 0\n", 9, MpsKind::SplitColumn),
+    (" M 'MARKER' 'INTEGER'\n", 6, MpsKind::Marker),
+    (" M 'MARKER' 'intorg'\n", 6, MpsKind::Marker),
+    (" @ c 1\n", 6, MpsKind::LongName),
+];
+
+/// A sixth line, with a column x.
+const COLUMN: &str = " x c 1\n";
+
+/// What follows that line in files refused among right-hand sides, ranges and bounds.
+const VALUES: [(&str, u32, MpsKind); 36] = [
+    ("RHS\n a\n", 8, MpsKind::FieldCount),
+    ("RHS\n r a 1 b 2 c\n", 8, MpsKind::FieldCount),
+    ("RANGES\n r a 1 b 2 c 3\n", 8, MpsKind::FieldCount),
+    ("RHS\n r a x\n", 8, MpsKind::Numeral),
+    ("RANGES\n a 1 b +\n", 8, MpsKind::Numeral),
+    ("RHS\n d 1\n", 8, MpsKind::UnknownName),
+    ("RHS\n r x 1\n", 8, MpsKind::UnknownName),
+    ("RHS\n r @ 1\n", 8, MpsKind::UnknownName),
+    ("RHS\n r a 1\n r b 0 a 1\n", 9, MpsKind::RepeatedEntry),
+    ("RHS\n c 1 c 1\n", 8, MpsKind::RepeatedEntry),
+    ("RANGES\n r c 1\n r c 1\n", 9, MpsKind::RepeatedEntry),
+    ("RANGES\n r b 0 b 0\n", 8, MpsKind::RepeatedEntry),
+    ("RHS\n @ a 1\n", 8, MpsKind::LongName),
+    ("RHS\n r a 1\n @ a 1\n", 9, MpsKind::LongName),
+    ("RHS\n r a 1\n s b x @ y\n", 9, MpsKind::LongName),
+    ("RANGES\n r a 1\n s @ x b y\n", 9, MpsKind::LongName),
+    ("RHS\n r a 1\n s b 1 c 1 d\n", 9, MpsKind::FieldCount),
+    ("RHS\n r a 1\n s \x0b 1\n", 9, MpsKind::BadByte),
+    ("BOUNDS\n UP x\n", 8, MpsKind::FieldCount),
+    ("BOUNDS\n LO b x 1 2\n", 8, MpsKind::FieldCount),
+    ("BOUNDS\n BV\n", 8, MpsKind::FieldCount),
+    ("BOUNDS\n FR b x 1 2\n", 8, MpsKind::FieldCount),
+    ("BOUNDS\n UP b x y\n", 8, MpsKind::Numeral),
+    ("BOUNDS\n FX x 1e-19\n", 8, MpsKind::Numeral),
+    ("BOUNDS\n XX\n", 8, MpsKind::BoundType),
+    ("BOUNDS\n up b x 1\n", 8, MpsKind::BoundType),
+    (
+        "BOUNDS\n UP b x 1\n XX s x 1 2 3 4\n",
+        9,
+        MpsKind::BoundType,
+    ),
+    ("BOUNDS\n UP b a 1\n", 8, MpsKind::UnknownName),
+    ("BOUNDS\n FR y\n", 8, MpsKind::UnknownName),
+    ("BOUNDS\n FR x 0\n", 8, MpsKind::UnknownName),
+    ("BOUNDS\n UP @ x 1\n", 8, MpsKind::LongName),
+    ("BOUNDS\n UP b x 1\n MI @ x\n", 9, MpsKind::LongName),
+    ("BOUNDS\n UP b x 1\n UP s @ y\n", 9, MpsKind::LongName),
+    ("BOUNDS\n UP b x 1\n UP s x\n", 10, MpsKind::NoEndata),
+    ("BOUNDS\n FR b x\n FR s x 1 2\n", 9, MpsKind::FieldCount),
+    ("RHS\n ENDATA\n", 8, MpsKind::FieldCount),
+];
+
+/// Files whose last line is refused for two reasons, of which the first in the order of kinds decides.
+const TWICE_HEADERS: [(&str, u32, MpsKind); 23] = [
+    ("ROWS\nNAME \x7f\n", 2, MpsKind::BadByte),
+    ("FOO\x7f\n", 1, MpsKind::BadByte),
+    ("ROWS\n N\x7f\n", 2, MpsKind::BadByte),
+    ("ROWS\n X\x7f c\n", 2, MpsKind::BadByte),
+    ("ROWS\nCOLUMNS \x7f\n", 2, MpsKind::BadByte),
+    ("NAME @\x7f\n", 1, MpsKind::BadByte),
+    ("OBJSENSE BIG\x7f\n", 1, MpsKind::BadByte),
+    ("COLUMNS\n", 1, MpsKind::SectionOrder),
+    ("ROWS\nNAME @\n", 2, MpsKind::SectionOrder),
+    ("ROWS\nOBJSENSE BIG\n", 2, MpsKind::SectionOrder),
+    ("OBJSENSE\nCOLUMNS\n", 2, MpsKind::SectionOrder),
+    ("OBJSENSE\nNAME @\n", 2, MpsKind::SectionOrder),
+    ("OBJSENSE\n MAX\n a b\n", 3, MpsKind::SectionOrder),
+    ("OBJSENSE\n MAX\n BIG\n", 3, MpsKind::SectionOrder),
+    ("OBJSENSE\nFOO\n", 2, MpsKind::UnknownSection),
+    ("OBJSENSE MAX\n MAX MIN\n", 2, MpsKind::FieldCount),
+    ("ROWS\n X c d\n", 2, MpsKind::FieldCount),
+    ("ROWS\n N c\n N c d\n", 3, MpsKind::FieldCount),
+    ("ROWS\n N 'MARKER' d\n", 2, MpsKind::FieldCount),
+    ("ROWS\n N @ d\n", 2, MpsKind::FieldCount),
+    ("ROWS\n N c\n X c\n", 3, MpsKind::RowType),
+    ("ROWS\n X 'MARKER'\n", 2, MpsKind::RowType),
+    ("ROWS\n X @\n", 2, MpsKind::RowType),
+];
+
+/// The same among the columns.
+const TWICE_COLUMNS: [(&str, u32, MpsKind); 19] = [
+    (" x c \x7f\n", 6, MpsKind::BadByte),
+    (" x d\x7f 1\n", 6, MpsKind::BadByte),
+    (" x c 1 c 1\x7f\n", 6, MpsKind::BadByte),
+    (" M 'MARKER' \x7f\n", 6, MpsKind::BadByte),
+    (" x c 1.2.3 d\n", 6, MpsKind::FieldCount),
+    (" x c 1 c\n", 6, MpsKind::FieldCount),
+    (" x a 1\n y a 1\n x b\n", 8, MpsKind::FieldCount),
+    (" M 'MARKER' 'X' a 1\n", 6, MpsKind::FieldCount),
+    (" @ c\n", 6, MpsKind::FieldCount),
+    (" x d 1..2\n", 6, MpsKind::Numeral),
+    (" x c 1 c 1..2\n", 6, MpsKind::Numeral),
+    (" x a 1\n y a 1\n x b z\n", 8, MpsKind::Numeral),
+    (" @ c z\n", 6, MpsKind::Numeral),
+    (" x c 1\n x c 1 d 1\n", 7, MpsKind::UnknownName),
+    (" x a 1\n y a 1\n x d 1\n", 8, MpsKind::UnknownName),
+    (" @ d 1\n", 6, MpsKind::UnknownName),
+    (" x a 0\n y a 1\n x a 1\n", 8, MpsKind::RepeatedEntry),
+    (" x a 1\n y b 1\n x b 1 b 1\n", 8, MpsKind::RepeatedEntry),
+    (" @ c 1 c 1\n", 6, MpsKind::RepeatedEntry),
+];
+
+/// The same among right-hand sides, ranges and bounds.
+const TWICE_VALUES: [(&str, u32, MpsKind); 20] = [
+    ("RHS\n r d 1 a 1 b\n", 8, MpsKind::FieldCount),
+    ("RHS\n r a 1..2 b 1 b\n", 8, MpsKind::FieldCount),
+    ("RHS\n r a 1 a 1 b\n", 8, MpsKind::FieldCount),
+    ("RHS\n @ a 1 b 1 b\n", 8, MpsKind::FieldCount),
+    ("RHS\n r d 1..2\n", 8, MpsKind::Numeral),
+    ("RHS\n r a 1 a 1..2\n", 8, MpsKind::Numeral),
+    ("RHS\n @ a 1..2\n", 8, MpsKind::Numeral),
+    ("RHS\n r a 1 d 1\n", 8, MpsKind::UnknownName),
+    ("RHS\n r a 1\n r a 1 d 1\n", 9, MpsKind::UnknownName),
+    ("RHS\n @ d 1\n", 8, MpsKind::UnknownName),
+    ("RANGES\n @ a 1 a 1\n", 8, MpsKind::RepeatedEntry),
+    ("BOUNDS\n UP b x 1..2 y\n", 8, MpsKind::FieldCount),
+    ("BOUNDS\n FR b y 1 2\n", 8, MpsKind::FieldCount),
+    ("BOUNDS\n UP @ x 1 2\n", 8, MpsKind::FieldCount),
+    ("BOUNDS\n UP b y 1..2\n", 8, MpsKind::Numeral),
+    ("BOUNDS\n UP @ x 1..2\n", 8, MpsKind::Numeral),
+    ("BOUNDS\n XX b y 1\n", 8, MpsKind::BoundType),
+    ("BOUNDS\n XX @ x 1\n", 8, MpsKind::BoundType),
+    ("BOUNDS\n XX\x7f b x\n", 8, MpsKind::BadByte),
+    ("BOUNDS\n UP @ y 1\n", 8, MpsKind::UnknownName),
+];
+
+/// The bytes of a text in parts, with 256 bytes in place of each `@`.
+fn bytes_of(alloc: Global, parts: [&str; 3]) -> Result<Vec<u8>, OutOfMemory> {
+    let mut bytes = Vec::new(alloc);
+    for part in parts {
+        for byte in part.as_bytes() {
+            if *byte == b'@' {
+                for _ in 0..256u32 {
+                    bytes.push(b'n')?;
+                }
+            } else {
+                bytes.push(*byte)?;
+            }
+        }
+    }
+    Ok(bytes)
+}
+
+/// Where and why a text is refused, or None where it is read.
+fn refusal(alloc: Global, bytes: &[u8]) -> Result<Option<(u32, MpsKind)>, OutOfMemory> {
     if bytes.len() > 1_000_000 {
         return Ok(None);
     }
-    match read_plain(alloc, bytes) {
+    match read(alloc, bytes) {
         Ok(_) => Ok(None),
-        Err(PlainError::Refused { line }) => Ok(Some(line)),
-        Err(PlainError::Memory) => Err(OutOfMemory),
+        Err(MpsError::Refused { line, kind }) => Ok(Some((line, kind))),
+        Err(MpsError::Memory) => Err(OutOfMemory),
     }
 }
 
+/// The place of the first file of a table that isn't refused as the table says, after these parts of each.
+fn first_wrong(
+    alloc: Global,
+    before: [&str; 2],
+    table: &[(&str, u32, MpsKind)],
+) -> Result<Option<usize>, OutOfMemory> {
+    for place in 0..table.len() {
+        let (text, line, kind) = table[place];
+        let bytes = bytes_of(alloc, [before[0], before[1], text])?;
+        if refusal(alloc, bytes.as_slice())? != Some((line, kind)) {
+            return Ok(Some(place));
+        }
+    }
+    Ok(None)
+}
+
 #[test]
-fn refuses_at_lines(rt: HostRuntime) -> Result<(), Fail> {
-    for (text, line) in REFUSED {
-        assert_eq!(rt; refused_line(rt.alloc(), text)?, Some(line), "{text}");
-    }
-    for (tail, line) in REFUSED_LATER {
-        let text = format!(in rt.alloc(); "{HEAD}{tail}")?;
-        assert_eq!(rt;
-            refused_line(rt.alloc(), text.as_str())?,
-            Some(line),
-            "{tail}"
-        );
-    }
+fn refuses_lines(rt: HostRuntime) -> Result<(), Fail> {
+    let alloc = rt.alloc();
+    assert_eq!(rt; first_wrong(alloc, ["", ""], HEADERS.as_slice())?, None);
+    assert_eq!(rt; first_wrong(alloc, ["", ""], ROWS.as_slice())?, None);
+    assert_eq!(rt; first_wrong(alloc, [HEAD, ""], COLUMNS.as_slice())?, None);
+    assert_eq!(rt;
+        first_wrong(alloc, [HEAD, COLUMN], VALUES.as_slice())?,
+        None
+    );
     Ok(())
 }
 
 #[test]
-fn limits_rows_and_columns(rt: HostRuntime) -> Result<(), Fail> {
-    let mut rows = String::from_str(rt.alloc(), "NAME T\nROWS\n N c\n")?;
-    let mut columns = String::from_str(rt.alloc(), HEAD)?;
-    for number in 0..65u32 {
-        let row = format!(in rt.alloc(); " L r{number}\n")?;
-        rows.push_str(row.as_str())?;
-        let column = format!(in rt.alloc(); " x{number} c 1\n")?;
-        columns.push_str(column.as_str())?;
-    }
-    assert_eq!(rt; refused_line(rt.alloc(), rows.as_str())?, Some(68));
-    assert_eq!(rt; refused_line(rt.alloc(), columns.as_str())?, Some(72));
+fn first_kind_decides(rt: HostRuntime) -> Result<(), Fail> {
+    let alloc = rt.alloc();
+    assert_eq!(rt;
+        first_wrong(alloc, ["", ""], TWICE_HEADERS.as_slice())?,
+        None
+    );
+    assert_eq!(rt;
+        first_wrong(alloc, [HEAD, ""], TWICE_COLUMNS.as_slice())?,
+        None
+    );
+    assert_eq!(rt;
+        first_wrong(alloc, [HEAD, COLUMN], TWICE_VALUES.as_slice())?,
+        None
+    );
     Ok(())
 }
 
+/// Files that are read.
+const READ: [&str; 8] = [
+    "ROWS\n N c\nCOLUMNS\nENDATA",
+    "NAME\nROWS more\n N c\nCOLUMNS more\nBOUNDS more\nRANGES\nRHS\nENDATA more\n @\n",
+    "\n\n* note\n \t\r\nOBJSENSE MIN more\nROWS\n N c\nCOLUMNS\nENDATA\nENDATA\n\x00",
+    "OBJSENSE\n MINIMIZE\nROWS\n N c\n N d\nCOLUMNS\n x d 1 d 2\n x d 3\nRHS\n d 1 d 1\nRANGES\n d 1\n d 1\nENDATA\n",
+    "ROWS\n N c\n L a\nCOLUMNS\n @' 'MARKER' 'INTEND'\n a a 1\n 'MARKER' c 1\nENDATA\n",
+    "ROWS\n N c\n L a\nCOLUMNS\n x a 1\nRHS\n a 1\n s zzz zzz\n s a 1 a 1\nBOUNDS\n UP s x 1\n UP x y\n FR x\n UP t y z\nENDATA\n",
+    "ROWS\n N c\nCOLUMNS\n x c 1\nBOUNDS\n FR b x @\n UP b x 3\n UP b x 4\nENDATA\n",
+    "ROWS\n N c\n L a\nCOLUMNS\n x a 1\n M 'MARKER' 'INTORG'\n x c 1\nRANGES\n r c 9\nENDATA\n",
+];
+
 #[test]
-fn reads_models(rt: HostRuntime) -> Result<(), Fail> {
-    let text =
-        b"NAME  T3 \nROWS\n N c\n L a\n G b\nCOLUMNS\n M 'MARKER' 'INTORG'\n x b 7 c 1\n  y   a  -002 \n x2 b 3 a 4\n M 'MARKER' 'INTEND'\nRHS\n r a -5\nBOUNDS\n BV b y\n UP b x 999999\n UP b x2 0\nENDATA \n\x00";
-    let model = read_plain(rt.alloc(), text)?;
-    let parts = model.parts();
-    assert_eq!(rt; parts.name.text().as_slice(), b"T3".as_slice());
-    assert_eq!(rt; parts.cols.len(), 3);
-    assert_eq!(rt; parts.cols.as_slice()[1].text().as_slice(), b"y".as_slice());
-    assert_eq!(rt; parts.costs.as_slice(), [1, 0, 0].as_slice());
-    assert_eq!(rt; parts.root.lows(), [0, 0, 0].as_slice());
-    assert_eq!(rt; parts.root.highs(), [999999, 1, 0].as_slice());
-    assert_eq!(rt; parts.rows.len(), 2);
-    let most = &parts.rows.as_slice()[0];
+fn reads_to_the_end(rt: HostRuntime) -> Result<(), Fail> {
+    for text in READ {
+        let bytes = bytes_of(rt.alloc(), [text, "", ""])?;
+        assert_eq!(rt; refusal(rt.alloc(), bytes.as_slice())?, None, "{text}");
+    }
+    Ok(())
+}
+
+/// One column x of cost 1 in 0 to 1.
+const ONE_COLUMN: &str =
+    "NAME T3\nROWS\n N c\nCOLUMNS\n M 'MARKER' 'INTORG'\n x c 1\nBOUNDS\n UP b x 1\n";
+
+#[test]
+fn refuses_the_end_and_a_repetition(rt: HostRuntime) -> Result<(), Fail> {
     assert_eq!(rt;
-        most.terms.as_slice(),
-        [Term { col: 1, coef: 2 }, Term { col: 2, coef: -4 }].as_slice()
+        refusal(rt.alloc(), ONE_COLUMN.as_bytes())?,
+        Some((9, MpsKind::NoEndata))
     );
-    assert_eq!(rt; most.least, 5);
-    let least = &parts.rows.as_slice()[1];
+    assert_eq!(rt; MpsKind::NoEndata.number(), 14);
+    let repeated =
+        b"NAME T3\nROWS\n N c\nCOLUMNS\n M 'MARKER' 'INTORG'\n x c 1 c 2\nBOUNDS\n UP b x 1\nENDATA\n";
     assert_eq!(rt;
-        least.terms.as_slice(),
-        [Term { col: 0, coef: 7 }, Term { col: 2, coef: 3 }].as_slice()
+        refusal(rt.alloc(), repeated)?,
+        Some((6, MpsKind::RepeatedEntry))
     );
-    assert_eq!(rt; least.least, 0);
+    assert_eq!(rt; MpsKind::RepeatedEntry.number(), 10);
+    let odd = b"* \x00\xff\x0b\nROWS\n N \xc3\xa9\n";
+    assert_eq!(rt; refusal(rt.alloc(), odd)?, Some((3, MpsKind::BadByte)));
     Ok(())
 }

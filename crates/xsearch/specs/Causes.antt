@@ -1,7 +1,7 @@
 use Rattle.std.specs.Prelude.{ℕ, ◌≡◌, List, Option, Some, None, Result, Ok, Err}
 use Rattle.ip_core.specs.Truth.{IsBest, HasNoPoint}
 use Rattle.ip_core.specs.declared.model.ModelParts.{ModelParts}
-use Rattle.mps_read.specs.Readings.{Reads, IsRefused}
+use Rattle.plain_read.specs.Readings.{Reads, IsRefused}
 use Rattle.plain_search.specs.Answers.{status_of}
 use Rattle.plain_search.specs.Machine.{history}
 use Rattle.plain_search.specs.Sound.{IsFound}

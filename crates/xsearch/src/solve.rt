@@ -6,7 +6,7 @@ use crate::answer::answer_text;
 use crate::failure::{Answered, Failure};
 use crate::words::{Request, asked};
 use ip_core::{Model, OutOfMemory, Text};
-use mps_read::{PlainError, read_plain};
+use plain_read::{PlainError, read_plain};
 use plain_search::{final_status, search};
 use std::alloc::Global;
 use xsearch_words::{Shelf, ShelfError};

@@ -5,15 +5,15 @@ use std::test::Fail;
 use xsearch_words::{MemoryShelf, MemorySink, SureShelf, SureSink};
 
 const M3: &[u8] =
-    b"NAME T3\nROWS\n N c\nCOLUMNS\n M 'MARKER' 'INTORG'\n x c 1\nBOUNDS\n UP b x 1\nENDATA\n";
+    b"NAME one\nROWS\n N c\nCOLUMNS\n M 'MARKER' 'INTORG'\n x c 1\nBOUNDS\n UP b x 1\nENDATA\n";
 
 const M3_UNENDED: &[u8] =
-    b"NAME T3\nROWS\n N c\nCOLUMNS\n M 'MARKER' 'INTORG'\n x c 1\nBOUNDS\n UP b x 1\n";
+    b"NAME one\nROWS\n N c\nCOLUMNS\n M 'MARKER' 'INTORG'\n x c 1\nBOUNDS\n UP b x 1\n";
 
 const EQUALITY_ROW: &[u8] = b"NAME T2\nROWS\n N c\n E a\nCOLUMNS\n";
 
 const M1: &[u8] =
-    b"NAME T1\nROWS\n N c\n L a\n L b\n L d\nCOLUMNS\n M 'MARKER' 'INTORG'\n x c -5 a 2\n x b 4 d 3\n y c -4 a 3\n y b 1 d 4\n z c -3 a 1\n z b 2 d 2\n M 'MARKER' 'INTEND'\nRHS\n r a 5 b 11\n r d 8\nBOUNDS\n UP k x 3\n UP k y 3\n UP k z 3\nENDATA\n";
+    b"NAME three\nROWS\n N c\n L a\n L b\n L d\nCOLUMNS\n M 'MARKER' 'INTORG'\n x c -5 a 2\n x b 4 d 3\n y c -4 a 3\n y b 1 d 4\n z c -3 a 1\n z b 2 d 2\n M 'MARKER' 'INTEND'\nRHS\n r a 5 b 11\n r d 8\nBOUNDS\n UP k x 3\n UP k y 3\n UP k z 3\nENDATA\n";
 
 const M4: &[u8] =
     b"NAME T4\nROWS\n N c\n G a\nCOLUMNS\n M 'MARKER' 'INTORG'\n x c 1 a 2\n M 'MARKER' 'INTEND'\nRHS\n r a 3\nBOUNDS\n UP k x 5\nENDATA\n";

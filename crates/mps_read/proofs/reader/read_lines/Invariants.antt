@@ -1,5 +1,5 @@
-use Rattle.std.proofs.Common.{◌≡◌, ◌≤◌, ◌+◌, length}
-use Rattle.mps_read.specs.Lines.{whole_lines}
+use Rattle.std.proofs.Common.{◌≡◌, ◌≤◌, ◌<◌, ◌+◌, length}
+use Rattle.mps_read.specs.Lines.{lines_of}
 use Rattle.mps_read.specs.Readings.{reading}
 use Rattle.mps_read.specs.Steps.{run}
 use Rattle.mps_read.specs.Drafts.{IsDraft}
@@ -8,7 +8,9 @@ use Rattle.mps_read.proofs.reader.read_lines.Given as goal
 abbrev pub invariant-loop-line : goal.invariant-loop-line
 invariant-loop-line l = record {
   draft : IsDraft l.draft;
-  rest : run l.draft l.number (whole_lines l.rest) ≡ reading l.bytes;
+  few_rows : l.draft.kept < l.number;
+  few_columns : length l.draft.column_names < l.number;
+  rest : run l.draft l.number (lines_of l.rest) ≡ reading l.bytes;
   few : l.number + length l.rest ≤ length l.bytes + 1;
 }
 

@@ -1,0 +1,12 @@
+pub mod Rows
+pub mod Truths
+pub mod Cutting
+pub mod Digits
+pub mod Naming
+pub mod Zeros
+pub mod Drafts
+pub mod Entries
+pub mod Bridge
+pub mod Runs
+pub mod RowModels
+pub mod PlainModels

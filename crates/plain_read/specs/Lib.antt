@@ -1,0 +1,13 @@
+pub mod Lines
+pub mod Numerals
+pub mod Forms
+pub mod Facts
+pub mod Rules
+pub mod Parts
+pub mod Readings
+pub mod Steps
+pub mod Drafts
+pub mod Seen
+pub mod Judges
+pub mod Outcomes
+pub mod Plain

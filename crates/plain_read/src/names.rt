@@ -1,0 +1,72 @@
+ghost use Rattle.std.specs.Prelude.{◌≡◌, ◌<◌, [], true, false, length, All, IfOk, OnOk, MatchOption};
+ghost use Rattle.plain_read.specs.Facts.{is_among, place_among, with_name};
+ghost use Rattle.plain_read.specs.Forms.{is_short_name};
+
+use crate::short_name::short_name;
+use indexmap::IndexSet;
+use ip_core::{List, Name, OutOfMemory};
+use std::alloc::Global;
+use std::marker::Model;
+
+/// Names numbered in the order in which they were added, each once.
+#[derive(Drop)]
+pub struct Names {
+    index: IndexSet<Vec<u8>>,
+}
+
+impl Model for Names {
+    ghost use Rattle.std.specs.Prelude.{ℕ, List, map};
+
+    ghost Value = { List (List ℕ) };
+
+    ghost view = { λ n. map (λ k. k.items) n.index.keys };
+}
+
+impl Names {
+    /// No names.
+    pub fn new(alloc: Global) -> Names
+        ensures { result ≡ [] }
+    {
+        Names {
+            index: IndexSet::new(alloc),
+        }
+    }
+
+    /// How many names there are.
+    pub fn len(&self) -> usize
+        ensures { result ≡ length self.now }
+    {
+        self.index.len()
+    }
+
+    /// The number of a name, or None where it isn't known.
+    pub fn find(&self, name: &[u8]) -> Option<usize>
+        ensures { MatchOption result (is_among name.now self.now ≡ false) (λ k. (is_among name.now self.now ≡ true) × (k ≡ place_among name.now self.now) × (k < length self.now)) }
+    {
+        self.index.get_index_of(name)
+    }
+
+    /// Adds a name at the end, where it isn't known yet.
+    pub fn add(&mut self, alloc: Global, name: &[u8]) -> Result<(), OutOfMemory>
+        ensures { OnOk result (self.new ≡ with_name name.now self.old) }
+    {
+        let owned = Vec::from_slice(alloc, name)?;
+        self.index.insert(owned)?;
+        Ok(())
+    }
+
+    /// The names in order.
+    pub fn listed(&self, alloc: Global) -> Result<List<Name>, OutOfMemory>
+        requires { All (λ name. is_short_name name ≡ true) self.now }
+        ensures { IfOk result (λ names. names ≡ self.now) }
+    {
+        let mut names = List::new(alloc);
+        for key in self.index.as_slice() {
+            match short_name(alloc, key.as_slice())? {
+                Some(name) => names.push(name)?,
+                None => unreachable!(),
+            }
+        }
+        Ok(names)
+    }
+}
