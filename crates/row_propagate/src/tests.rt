@@ -218,15 +218,28 @@ fn propagates(rt: HostRuntime) -> Result<(), Fail> {
     Ok(())
 }
 
+/// Whether the passes over these rows, from lows of 0, list these tightenings.
+fn lists(
+    alloc: Global,
+    highs: [i64; 3],
+    rows: Rows,
+    again: bool,
+    wanted: &[Tighten],
+) -> Result<bool, Fail> {
+    let model = model(alloc, ZERO, highs, rows)?;
+    let (_run, _bounds, steps) = propagated(alloc, &model, again)?;
+    Ok(steps.as_slice() == wanted)
+}
+
+#[test]
+fn lists_one_step(rt: HostRuntime) -> Result<(), Fail> {
+    let wanted = [step(RowRef::Model(0), 0, true)];
+    assert!(rt; lists(rt.alloc(), [5, 0, 0], DOUBLE, false, &wanted)?);
+    Ok(())
+}
+
 #[test]
 fn lists_steps_in_order(rt: HostRuntime) -> Result<(), Fail> {
-    let alloc = rt.alloc();
-    let double = model(alloc, [0, 0, 0], [5, 0, 0], DOUBLE)?;
-    let (_run, _bounds, steps) = propagated(alloc, &double, false)?;
-    let raised = step(RowRef::Model(0), 0, true);
-    assert_eq!(rt; steps.as_slice(), [raised].as_slice());
-    let sums = model(alloc, [0, 0, 0], [3, 3, 0], SUMS)?;
-    let (_run, _bounds, steps) = propagated(alloc, &sums, true)?;
     let wanted = [
         step(RowRef::Model(0), 0, true),
         step(RowRef::Model(0), 1, true),
@@ -235,7 +248,7 @@ fn lists_steps_in_order(rt: HostRuntime) -> Result<(), Fail> {
         step(RowRef::Cut(0), 0, true),
         step(RowRef::Cut(0), 1, true),
     ];
-    assert_eq!(rt; steps.as_slice(), wanted.as_slice());
+    assert!(rt; lists(rt.alloc(), [3, 3, 0], SUMS, true, &wanted)?);
     Ok(())
 }
 
@@ -256,25 +269,41 @@ fn first_row(
     Ok(Some((conflicts, step, bounds.get(col))))
 }
 
+/// A model's lows and highs, its rows and a column, whether its first row conflicts, whether a low or a high of the
+/// column is tightened, and the column's bounds then.
+type Judged = (
+    ([i64; 3], [i64; 3]),
+    Rows,
+    u32,
+    (bool, Option<bool>),
+    (i64, i64),
+);
+
+const JUDGED: [Judged; 5] = [
+    ((ZERO, [1, 1, 1]), HALVES, 0, (false, None), (0, 1)),
+    ((ZERO, ZERO), HALVES, 0, (true, Some(true)), (2, 0)),
+    (([2, 0, 0], [5, 0, 0]), DOUBLE, 0, (false, None), (2, 5)),
+    ((ZERO, [4, 4, 0]), RIGHT, 0, (false, Some(true)), (3, 4)),
+    ((ZERO, [4, 4, 0]), RIGHT, 1, (false, Some(false)), (0, 1)),
+];
+
+fn judges_so(alloc: Global, case: &Judged) -> Result<bool, Fail> {
+    let ((lows, highs), rows, col, (conflicts, low), sides) = *case;
+    let model = model(alloc, lows, highs, rows)?;
+    let found = first_row(alloc, &model, col)?;
+    let tightened = match low {
+        Some(low) => Some(step(RowRef::Model(0), col, low)),
+        None => None,
+    };
+    Ok(found == Some((conflicts, tightened, sides)))
+}
+
 #[test]
 fn judges_one_row(rt: HostRuntime) -> Result<(), Fail> {
     let alloc = rt.alloc();
-    let raised = Some(step(RowRef::Model(0), 0, true));
-    let lowered = Some(step(RowRef::Model(0), 1, false));
-    let halves = model(alloc, ZERO, [1, 1, 1], HALVES)?;
-    assert_eq!(rt; first_row(alloc, &halves, 0)?, Some((false, None, (0, 1))));
-    let conflicting = model(alloc, ZERO, ZERO, HALVES)?;
-    assert_eq!(rt;
-        first_row(alloc, &conflicting, 0)?,
-        Some((true, raised, (2, 0)))
-    );
-    let reached = model(alloc, [2, 0, 0], [5, 0, 0], DOUBLE)?;
-    assert_eq!(rt; first_row(alloc, &reached, 0)?, Some((false, None, (2, 5))));
-    let right = model(alloc, ZERO, [4, 4, 0], RIGHT)?;
-    assert_eq!(rt; first_row(alloc, &right, 0)?, Some((false, raised, (3, 4))));
-    assert_eq!(rt;
-        first_row(alloc, &right, 1)?,
-        Some((false, lowered, (0, 1)))
-    );
+    for case in &JUDGED {
+        let holds = judges_so(alloc, case)?;
+        assert!(rt; holds, "at {case:?}");
+    }
     Ok(())
 }
