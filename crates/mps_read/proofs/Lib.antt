@@ -11,3 +11,14 @@ pub mod Keeping
 pub mod Marks
 pub mod Kept
 pub mod Runs
+pub mod PrintRows
+pub mod PrintBytes
+pub mod PrintNames
+pub mod PrintLines
+pub mod PrintPhases
+pub mod PrintedRows
+pub mod PrintPlaces
+pub mod PrintedColumns
+pub mod PrintedValues
+pub mod PrintedBounds
+pub mod Printback

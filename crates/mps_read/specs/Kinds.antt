@@ -165,9 +165,14 @@ lacks_objective d _ = false
 abbrev pub is_short_pair : Pair → Bool
 is_short_pair pair = not (is_long pair.row)
 
+-- the model's name is too long
+abbrev pub is_long_title : Section → List ℕ → Bool
+is_long_title Name word = is_long word
+is_long_title _ word = false
+
 -- 15: a name that is too long; a line of another set is tested for it too
 abbrev pub has_long_name : Draft → Form → Bool
-has_long_name d (Head Name word) = is_long word
+has_long_name d (Head section word) = is_long_title section word
 has_long_name d (FreeRow name) = is_long name
 has_long_name d (KeptRow kind name) = is_long name
 has_long_name d (Entries column first second) = is_long column

@@ -1,6 +1,6 @@
-ghost use Rattle.std.specs.Prelude.{◌≡◌, true, false, IfOk, OnOk, IfNone};
+ghost use Rattle.std.specs.Prelude.{◌≡◌, [], true, false, IfOk, OnOk, IfNone};
 ghost use Rattle.mps_read.specs.Forms.{head_form, sense_form, Head};
-ghost use Rattle.mps_read.specs.Kinds.{kind_of, is_in_order as is_in_order_of, is_objsense as is_objsense_of, lacks_objective as lacks_objective_of, has_long_name, has_bad_sense as has_bad_sense_of};
+ghost use Rattle.mps_read.specs.Kinds.{kind_of, is_in_order as is_in_order_of, is_objsense as is_objsense_of, lacks_objective as lacks_objective_of, is_long_title as is_long_title_of, has_bad_sense as has_bad_sense_of};
 ghost use Rattle.mps_read.specs.Seen.{seen, AreFields, IsField};
 ghost use Rattle.mps_read.specs.Steps.{after_head};
 ghost use Rattle.mps_read.specs.Judges.{Judges};
@@ -31,8 +31,8 @@ fn is_in_order(draft: &Draft, section: Section) -> bool
 }
 
 /// Whether the columns begin without an objective.
-fn lacks_objective(draft: &Draft, section: Section, word: &[u8]) -> bool
-    ensures { result ≡ lacks_objective_of draft.now (Head section word.now) }
+fn lacks_objective(draft: &Draft, section: Section) -> bool
+    ensures { result ≡ lacks_objective_of draft.now (Head section []) }
 {
     match section {
         Section::Columns => draft.objective.is_none(),
@@ -41,8 +41,8 @@ fn lacks_objective(draft: &Draft, section: Section, word: &[u8]) -> bool
 }
 
 /// Whether the model's name is too long.
-fn is_long_title(draft: &Draft, section: Section, word: &[u8]) -> bool
-    ensures { result ≡ has_long_name draft.now (Head section word.now) }
+fn is_long_title(section: Section, word: &[u8]) -> bool
+    ensures { result ≡ is_long_title_of section word.now }
 {
     match section {
         Section::Name => is_long(word),
@@ -73,15 +73,15 @@ fn has_bad_sense(draft: &Draft, section: Section, word: &[u8]) -> bool
 /// Why a section line isn't allowed, if it isn't.
 fn head_kind(draft: &Draft, section: Section, word: &[u8]) -> Option<MpsKind>
     ensures kind { result ≡ kind_of draft.now (Head section word.now) }
-    ensures short { IfNone result (has_long_name draft.now (Head section word.now) ≡ false) }
+    ensures short { IfNone result (is_long_title_of section word.now ≡ false) }
 {
     if !is_in_order(draft, section) {
         return Some(MpsKind::SectionOrder);
     }
-    if lacks_objective(draft, section, word) {
+    if lacks_objective(draft, section) {
         return Some(MpsKind::NoObjective);
     }
-    if is_long_title(draft, section, word) {
+    if is_long_title(section, word) {
         return Some(MpsKind::LongName);
     }
     if has_bad_sense(draft, section, word) {
@@ -98,7 +98,7 @@ fn begin_section(
     word: &[u8],
 ) -> Result<(), OutOfMemory>
     requires field { IsField word.now }
-    requires short { has_long_name draft.old (Head section word.now) ≡ false }
+    requires short { is_long_title_of section word.now ≡ false }
     ensures { OnOk result (draft.new ≡ after_head draft.old section word.now) }
 {
     match section {
@@ -129,7 +129,7 @@ pub fn take_head(
     if let Some(kind) = head_kind(draft, section, word) {
         return Ok(Judgement::Refused(kind));
     }
-    if is_last(section, word) {
+    if is_last(section) {
         return Ok(Judgement::Ended);
     }
     begin_section(alloc, draft, section, word)?;

@@ -21,6 +21,9 @@ mod name;
 mod names;
 mod numeral;
 mod pair;
+mod printer;
+#[cfg(test)]
+mod printer_tests;
 mod reader;
 mod row_line;
 mod section;
@@ -30,4 +33,5 @@ mod value;
 
 pub use error::{MpsError, MpsKind};
 pub use model::{Limit, MpsCol, MpsEntry, MpsModel, MpsRow, RowKind};
+pub use printer::print;
 pub use reader::read;

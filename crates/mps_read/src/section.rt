@@ -1,4 +1,4 @@
-ghost use Rattle.std.specs.Prelude.{◌≡◌};
+ghost use Rattle.std.specs.Prelude.{◌≡◌, []};
 ghost use Rattle.std.specs.Str.{bytes_eq};
 ghost use Rattle.mps_read.specs.Forms.{section_named as section_of_name, bound_named as bound_of_name, row_kind_named as row_kind_of_name, has_numeral as is_with_numeral, is_end, Head};
 ghost use Rattle.mps_read.specs.Facts.{sense_named as sense_of_name};
@@ -97,8 +97,8 @@ pub fn rank(section: Option<Section>) -> u32
 }
 
 /// Whether a section ends the file.
-pub fn is_last(section: Section, word: &[u8]) -> bool
-    ensures { result ≡ is_end (Head section word.now) }
+pub fn is_last(section: Section) -> bool
+    ensures { result ≡ is_end (Head section []) }
 {
     match section {
         Section::Endata => true,

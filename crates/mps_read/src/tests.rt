@@ -1,5 +1,5 @@
-use crate::{MpsError, MpsKind, read};
-use ip_core::OutOfMemory;
+use crate::{Limit, MpsCol, MpsError, MpsKind, MpsModel, MpsRow, RowKind, read};
+use ip_core::{Decimal, OutOfMemory};
 use std::alloc::Global;
 use std::test::Fail;
 
@@ -351,5 +351,146 @@ fn refuses_the_end_and_a_repetition(rt: HostRuntime) -> Result<(), Fail> {
     assert_eq!(rt; MpsKind::RepeatedEntry.number(), 10);
     let odd = b"* \x00\xff\x0b\nROWS\n N \xc3\xa9\n";
     assert_eq!(rt; refusal(rt.alloc(), odd)?, Some((3, MpsKind::BadByte)));
+    Ok(())
+}
+
+/// The decimal of a numeral.
+fn decimal(text: &str) -> Option<Decimal> {
+    if text.len() > 100 {
+        return None;
+    }
+    Decimal::read(text.as_bytes()).ok()
+}
+
+/// The limit of a numeral.
+fn at(text: &str) -> Limit {
+    match decimal(text) {
+        Some(value) => Limit::At(value),
+        None => Limit::Unset,
+    }
+}
+
+/// Whether a column's entries are these.
+fn has_entries(column: &MpsCol, entries: &[(u32, &str)]) -> bool {
+    if column.entries.len() != entries.len() {
+        return false;
+    }
+    for place in 0..entries.len() {
+        let (row, value) = entries[place];
+        let entry = column.entries.as_slice()[place];
+        if entry.row != row || Some(entry.value) != decimal(value) {
+            return false;
+        }
+    }
+    true
+}
+
+/// Whether a column has this name, type, cost and these limits.
+fn is_column(
+    column: &MpsCol,
+    name: &[u8],
+    integer: bool,
+    cost: &str,
+    low: Limit,
+    high: Limit,
+) -> bool {
+    column.name.text().as_slice() == name
+        && column.integer == integer
+        && Some(column.cost) == decimal(cost)
+        && column.low == low
+        && column.high == high
+}
+
+/// Whether a row has this name, kind, right-hand side and range, where the empty text stands for none.
+fn is_row(row: &MpsRow, name: &[u8], kind: RowKind, rhs: &str, range: &str) -> bool {
+    row.name.text().as_slice() == name
+        && row.kind == kind
+        && Some(row.rhs) == decimal(rhs)
+        && row.range == decimal(range)
+}
+
+/// Whether a model has this name, sense, objective and constant.
+fn is_headed(
+    model: &MpsModel,
+    name: &[u8],
+    maximise: bool,
+    objective: &[u8],
+    constant: &str,
+) -> bool {
+    model.name.text().as_slice() == name
+        && model.maximise == maximise
+        && model.objective.text().as_slice() == objective
+        && Some(model.constant) == decimal(constant)
+}
+
+/// Aligned fields, carriage returns, a comment, markers and right-hand sides without the name of a set.
+const PACKING: &[u8] =
+    b"* small packing model\r\nNAME          PACK\r\nROWS\r\n N  PROFIT\r\n L  WEIGHT\r\nCOLUMNS\r\n    M1        'MARKER'                 'INTORG'\r\n    BOX       PROFIT         -2.25     WEIGHT             3\r\n    CAN       PROFIT         -1.50     WEIGHT             2\r\n    M2        'MARKER'                 'INTEND'\r\n    LID       PROFIT         -0.40     WEIGHT             1\r\nRHS\r\n    WEIGHT             7\r\nBOUNDS\r\n UP BND       BOX                4\r\n UP BND       CAN                4\r\n BV BND       LID\r\nENDATA\r\n";
+
+fn is_packing(model: &MpsModel) -> bool {
+    let [row] = model.rows.as_slice() else {
+        return false;
+    };
+    let [first, can, lid] = model.cols.as_slice() else {
+        return false;
+    };
+    is_headed(model, b"PACK", false, b"PROFIT", "0")
+        && is_row(row, b"WEIGHT", RowKind::Less, "7", "")
+        && is_column(first, b"BOX", true, "-225e-2", Limit::Unset, at("4"))
+        && has_entries(first, [(0, "3")].as_slice())
+        && is_column(can, b"CAN", true, "-15e-1", Limit::Unset, at("4"))
+        && has_entries(can, [(0, "2")].as_slice())
+        && is_column(lid, b"LID", true, "-4e-1", at("0"), at("1"))
+        && has_entries(lid, [(0, "1")].as_slice())
+}
+
+/// Dropped rows, zeros, several sets, numbers that stand for no bound, and what follows the end.
+const SETS: &[u8] =
+    b"NAME T more\nOBJSENSE\n\tMAXIMIZE\nROWS\n N cost\n N spare\n L a\n G b\n E d\nCOLUMNS\n x cost 1.50D+2 a 2\n x spare 7 spare 8\n m 'MARKER' 'INTORG'\n y d -3 b 0\n y cost 0 a 1\n m 'MARKER' 'INTEND'\n z a 1e-3\nRANGES\n S a -4 cost 9\n T nowhere x\nRHS\n a 5 b 1\n cost 12\n other zzz q\nBOUNDS\n LO x -1e20\n UP x 1e20\n LI S y 2\n FX z 3.5\n PL x\nENDATA\n junk \xff";
+
+fn is_sets(model: &MpsModel) -> bool {
+    let [a, b, d] = model.rows.as_slice() else {
+        return false;
+    };
+    let [x, y, z] = model.cols.as_slice() else {
+        return false;
+    };
+    is_headed(model, b"T", true, b"cost", "-12")
+        && is_row(a, b"a", RowKind::Less, "5", "-4")
+        && is_row(b, b"b", RowKind::Greater, "1", "")
+        && is_row(d, b"d", RowKind::Equal, "0", "")
+        && is_column(x, b"x", false, "150", Limit::Free, Limit::Free)
+        && has_entries(x, [(0, "2")].as_slice())
+        && is_column(y, b"y", true, "0", Limit::Unset, Limit::Unset)
+        && has_entries(y, [(2, "-3"), (0, "1")].as_slice())
+        && is_column(z, b"z", false, "0", at("35e-1"), at("35e-1"))
+        && has_entries(z, [(0, "0.001")].as_slice())
+}
+
+/// Each type of bound. A later line replaces the sides that it sets.
+const BOUNDED: &[u8] =
+    b"ROWS\n N c\nCOLUMNS\n p c 1\n q c 1\n r c 1\n s c 1\n t c 1\n u c 1\nBOUNDS\n LI p 2\n UI q -0.1\n BV r\n FR r\n UP s 8\n MI s\n FX t 1e20\n FX u -1e20\n UP r 3\n PL r\nENDATA";
+
+fn is_bounded(model: &MpsModel) -> bool {
+    let [p, q, r, s, t, u] = model.cols.as_slice() else {
+        return false;
+    };
+    is_headed(model, b"", false, b"c", "0")
+        && is_column(p, b"p", true, "1", at("2"), Limit::Unset)
+        && is_column(q, b"q", true, "1", Limit::Unset, at("-0.1"))
+        && is_column(r, b"r", true, "1", Limit::Free, Limit::Free)
+        && is_column(s, b"s", false, "1", Limit::Free, at("8"))
+        && is_column(t, b"t", false, "1", at("1e20"), Limit::Free)
+        && is_column(u, b"u", false, "1", Limit::Free, at("-1e20"))
+}
+
+#[test]
+fn reads_models(rt: HostRuntime) -> Result<(), Fail> {
+    let packing = read(rt.alloc(), PACKING)?;
+    assert!(rt; is_packing(&packing));
+    let sets = read(rt.alloc(), SETS)?;
+    assert!(rt; is_sets(&sets));
+    let bounded = read(rt.alloc(), BOUNDED)?;
+    assert!(rt; is_bounded(&bounded));
     Ok(())
 }
