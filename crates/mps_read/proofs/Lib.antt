@@ -22,3 +22,13 @@ pub mod PrintedColumns
 pub mod PrintedValues
 pub mod PrintedBounds
 pub mod Printback
+pub mod ModelLists
+pub mod ModelFields
+pub mod ModelDrafts
+pub mod ModelRows
+pub mod ModelColumns
+pub mod ModelAllowed
+pub mod ModelEnds
+pub mod ModelSteps
+pub mod ModelReads
+pub mod DecimalReads

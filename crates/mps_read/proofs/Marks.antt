@@ -11,7 +11,7 @@ or_same true = refl
 or_same false = refl
 
 -- one more mark
-has_mark-push : (row col r c : ℕ) (marks : List Mark) → has_mark r c (marks ++ record { row = row; col = col } ∷ []) ≡ (has_mark r c marks || (row == r && col == c))
+pub has_mark-push : (row col r c : ℕ) (marks : List Mark) → has_mark r c (marks ++ record { row = row; col = col } ∷ []) ≡ (has_mark r c marks || (row == r && col == c))
 has_mark-push row col r c marks =
     list_any-append (λ m. m.row == r && m.col == c) marks (record { row = row; col = col } ∷ []) ∙ ap (λ b. has_mark r c marks || b) (or_same (row == r && col == c))
 
@@ -30,7 +30,7 @@ latest-other (n ∷ latest) (suc row) (suc r) count h = latest-other latest row 
 eq_of : (n m : ℕ) → (n == m) ≡ true → n ≡ m
 eq_of n m h = grind (arith, nat_tests)
 
-same_eq : (n : ℕ) → (n == n) ≡ true
+pub same_eq : (n : ℕ) → (n == n) ≡ true
 same_eq n = grind (arith, nat_tests)
 
 eq_suc : (n m : ℕ) → (n + 1 == m + 1) ≡ (n == m)

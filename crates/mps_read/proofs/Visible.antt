@@ -6,7 +6,7 @@ use Rattle.mps_read.proofs.Truths.{and_true}
 
 -- the fields of a line that may hold its bytes have visible bytes alone
 
-abbrev all_visible : List (List ℕ) → Bool
+abbrev pub all_visible : List (List ℕ) → Bool
 all_visible ws = list_all (list_all is_visible) ws
 
 with_byte-visible : (b : ℕ) (ps : List (List ℕ)) → is_visible b ≡ true → all_visible ps ≡ true → all_visible (with_byte b ps) ≡ true
@@ -17,7 +17,7 @@ piece_by : (s : Bool) (b : ℕ) (ps : List (List ℕ)) → (s || is_visible b) �
 piece_by true b ps h all = all
 piece_by false b ps h all = with_byte-visible b ps h all
 
-pieces-visible : (line : List ℕ) → list_all is_line_byte line ≡ true → all_visible (pieces line) ≡ true
+pub pieces-visible : (line : List ℕ) → list_all is_line_byte line ≡ true → all_visible (pieces line) ≡ true
 pieces-visible [] h = refl
 pieces-visible (b ∷ line) h =
     let p = and_true (is_line_byte b) (list_all is_line_byte line) h in
@@ -27,7 +27,7 @@ filled_by : (f : Bool) (p : List ℕ) (ps : List (List ℕ)) → list_all is_vis
 filled_by true p ps h all = rw h all
 filled_by false p ps h all = all
 
-filter-visible : (ps : List (List ℕ)) → all_visible ps ≡ true → all_visible (filter is_filled ps) ≡ true
+pub filter-visible : (ps : List (List ℕ)) → all_visible ps ≡ true → all_visible (filter is_filled ps) ≡ true
 filter-visible [] h = refl
 filter-visible (p ∷ ps) h =
     let q = and_true (list_all is_visible p) (all_visible ps) h in

@@ -2,7 +2,7 @@
 use Rattle.std.specs.Prelude.{ℕ, ◌≡◌, ◌≢◌, ◌<◌, false, List, [], ◌∷◌, length, map, slice_index_or, Option, Some, None, codes, All}
 use Rattle.ip_core.specs.Names.{IsName}
 use Rattle.ip_core.specs.Decimals.{Number, IsDecimal, negated}
-use Rattle.mps_read.specs.Numerals.{zero_decimal, is_zero, is_infinite}
+use Rattle.mps_read.specs.Numerals.{is_zero, is_infinite}
 use Rattle.mps_read.specs.declared.model.Limit.{Limit}
 use Rattle.mps_read.specs.declared.model.Limit.TheVariants.{Unset, Free, At}
 use Rattle.mps_read.specs.declared.model.MpsRow.{MpsRow}

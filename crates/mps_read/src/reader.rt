@@ -5,6 +5,7 @@ ghost use Rattle.mps_read.specs.Outcomes.{IsOutcome, IsCause};
 ghost use Rattle.mps_read.specs.Seen.{seen, AreFields};
 ghost use Rattle.mps_read.specs.Judges.{Judges};
 ghost use Rattle.mps_read.specs.Drafts.{IsDraft};
+ghost use Rattle.mps_read.specs.MpsModels.{IsMpsModel};
 
 use crate::bound::take_bounds;
 use crate::draft::{Draft, Judgement};
@@ -122,10 +123,12 @@ fn read_lines(alloc: Global, bytes: &[u8]) -> Result<Outcome, OutOfMemory>
 }
 
 /// Reads a file: its model, or the first line that isn't allowed given all lines before it, with the first kind that
-/// applies to it. Lines after `ENDATA` aren't read. Only memory can end it otherwise.
+/// applies to it. Lines after `ENDATA` aren't read. Only memory can end it otherwise. What it gives is a model that a
+/// file can have, which can be printed.
 pub fn read(alloc: Global, bytes: &[u8]) -> Result<MpsModel, MpsError>
     requires { length bytes.now ≤ 2 ^ 30 }
     ensures answer { MatchResult result (λ m. Reads bytes.now m) (λ e. IsCause bytes.now e) }
+    ensures kept { IfOk result (λ m. IsMpsModel m) }
 {
     match read_lines(alloc, bytes)? {
         Outcome::Read(model) => Ok(model),
