@@ -22,7 +22,8 @@ pub struct Ascent {
 
 /// The ascent over a box. Multipliers begin at 0. In a round each row in order takes the first of greatest numerator
 /// among its multiplier, that plus and minus the step size within 0 and 2^40, and 0. A round that changes none halves
-/// the step size; the ascent ends where that is 0, and after 64 rounds. The pulse hears of the work at the end.
+/// the step size; the ascent ends where that is 0, and after 64 rounds. The pulse hears of the work at the end. The only
+/// error is want of memory, of which the pulse hears nothing.
 pub fn ascend<P: Pulse>(
     alloc: Global,
     model: &Model,

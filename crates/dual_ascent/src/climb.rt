@@ -1,8 +1,8 @@
 ghost use Rattle.std.specs.Prelude.{◌≡◌, ◌≤◌, ◌<◌, ◌==◌, not, length, slice_index, IfOk};
 ghost use Rattle.safe_bound.specs.Bounds.{numerator as numerator_of};
 ghost use Rattle.safe_bound.specs.Premises.{AreCuts, AreMultipliers, IsWithinReach};
-ghost use Rattle.dual_ascent.specs.Climbs.{after_round, after_row, after_rows, changes as changes_of, climbed, is_same, taken};
-ghost use Rattle.dual_ascent.specs.Ascents.{ascent, first_climb as first_climb_of, first_step_size as first_step_size_of, greatest_size};
+ghost use Rattle.dual_ascent.specs.Climbs.{after_round, after_row, after_rows, changes as changes_of, is_same, taken};
+ghost use Rattle.dual_ascent.specs.Ascents.{ascent, first_climb as first_climb_of, first_step_size as first_step_size_of};
 
 use ip_core::{Bounds, List, Model, OutOfMemory, Row};
 use safe_bound::{MAX_MULTIPLIER, numerator};

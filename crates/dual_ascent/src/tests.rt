@@ -74,7 +74,7 @@ fn ascent_of(alloc: Global, model: &Model, cuts: &[Row]) -> Result<Ascent, OutOf
     ascend(alloc, model, cuts, model.root(), &mut pulse)
 }
 
-/// Whether an ascent has this multiplier for its one row, this bound, value of its one column, and work.
+/// Whether an ascent found these multipliers, this bound and these values, with this work.
 fn is_found(found: &Ascent, mults: &[u64], bound: i128, values: &[i64], work: u64) -> bool {
     found.mults.as_slice() == mults
         && found.bound == bound

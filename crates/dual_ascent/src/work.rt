@@ -1,4 +1,4 @@
-ghost use Rattle.std.specs.Prelude.{◌≡◌, ◌≤◌, ◌*◌, ◌^◌, length};
+ghost use Rattle.std.specs.Prelude.{◌≡◌, ◌≤◌, ◌^◌, length};
 ghost use Rattle.ip_core.specs.Models.{term_count as term_count_of};
 ghost use Rattle.safe_bound.specs.Premises.{AreCuts};
 ghost use Rattle.dual_ascent.specs.Ascents.{HasShortRows, round_work as round_work_of};

@@ -20,3 +20,4 @@ pub mod RisingColumns
 pub mod IntProducts
 pub mod ColumnSums
 pub mod NarrowSums
+pub mod DecimalReads

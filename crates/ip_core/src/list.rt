@@ -1,4 +1,4 @@
-ghost use Rattle.std.specs.Prelude.{◌≡◌, ◌∷◌, ◌++◌, ◌==◌, ◌<◌, [], length, slice_set, OnErr, OnOk};
+ghost use Rattle.std.specs.Prelude.{◌≡◌, ◌∷◌, ◌++◌, ◌==◌, ◌<◌, [], length, slice_set, take, OnErr, OnOk};
 ghost use Rattle.std.specs.Borrow.{Lends, sem, Array};
 ghost use Rattle.ip_core.specs.contracts.list.List.{the_row};
 ghost use Rattle.ip_core.specs.Seq.{with_front};
@@ -64,6 +64,15 @@ impl<T> List<T> {
         ensures { self.new ≡ slice_set self.old place item }
     {
         self.items[place] = item;
+    }
+
+    /// Drops all items but the first `len`.
+    pub fn truncate(&mut self, len: usize)
+    where
+        T: Drop,
+        ensures { self.new ≡ take len self.old }
+    {
+        self.items.truncate(len);
     }
 
     /// The items in order, to be changed in place.

@@ -16,7 +16,7 @@ digit n = decimal (pos n) (pos 0)
 
 abbrev one_column-model : MpsModel
 one_column-model = record {
-  name = codes "T3";
+  name = codes "one";
   maximise = false;
   objective = codes "c";
   constant = digit 0;
@@ -24,7 +24,7 @@ one_column-model = record {
   cols = record { name = codes "x"; integer = true; cost = digit 1; entries = []; low = Unset; high = At (digit 1) } ∷ [];
 }
 
-pub one_column : reading (codes "NAME T3\nROWS\n N c\nCOLUMNS\n M 'MARKER' 'INTORG'\n x c 1\nBOUNDS\n UP b x 1\nENDATA\n") ≡ Read one_column-model
+pub one_column : reading (codes "NAME one\nROWS\n N c\nCOLUMNS\n M 'MARKER' 'INTORG'\n x c 1\nBOUNDS\n UP b x 1\nENDATA\n") ≡ Read one_column-model
 one_column = refl
 
 abbrev packing-model : MpsModel

@@ -31,4 +31,3 @@ pub mod ModelAllowed
 pub mod ModelEnds
 pub mod ModelSteps
 pub mod ModelReads
-pub mod DecimalReads

@@ -5,7 +5,7 @@ use Rattle.std.proofs.lemmas.List.{map-append}
 use Rattle.std.proofs.lemmas.List.Elements.{All-nil, All-push}
 use Rattle.ip_core.specs.Decimals.{Number, IsDecimal, negated, read_decimal}
 use Rattle.ip_core.specs.declared.decimal.NumeralError.{NumeralError}
-use Rattle.mps_read.proofs.DecimalReads.{zero_is, read_decimal_is}
+use Rattle.ip_core.proofs.DecimalReads.{zero_is, read_decimal_is}
 use Rattle.mps_read.specs.Names.{is_among, extended}
 use Rattle.mps_read.specs.Numerals.{zero_decimal, one_decimal, or_zero, decimal_of, is_zero, is_infinite}
 use Rattle.mps_read.specs.RowFacts.{state_at, is_tested}

@@ -2,7 +2,7 @@ use Rattle.std.proofs.Common.{◌≡◌, ℕ, true, List, [], ◌∷◌, length,
 use Rattle.std.proofs.lemmas.Bool.{false≢true}
 use Rattle.std.proofs.lemmas.List.Elements.{All-nil, All-weaker}
 use Rattle.ip_core.specs.Decimals.{IsDecimal}
-use Rattle.mps_read.proofs.DecimalReads.{zero_is}
+use Rattle.ip_core.proofs.DecimalReads.{zero_is}
 use Rattle.mps_read.specs.Forms.{Form, Blank, Spoilt, Head, UnknownHead, Stray, Miscounted, SenseLine, FreeRow, KeptRow, UntypedRow, Marker, UnknownMarker, Entries, Values, BoundLine, UntypedBound, is_end}
 use Rattle.mps_read.specs.Kinds.{kind_of}
 use Rattle.mps_read.specs.Drafts.{IsDraft}

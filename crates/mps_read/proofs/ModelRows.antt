@@ -3,7 +3,7 @@ use Rattle.std.proofs.lemmas.Int.{ints}
 use Rattle.std.proofs.lemmas.List.{map-append}
 use Rattle.std.proofs.lemmas.List.Elements.{All-push, All-weaker, All-head, All-tail}
 use Rattle.ip_core.specs.Decimals.{Number, IsDecimal, negated}
-use Rattle.mps_read.proofs.DecimalReads.{zero_is}
+use Rattle.ip_core.proofs.DecimalReads.{zero_is}
 use Rattle.mps_read.specs.Names.{is_among}
 use Rattle.mps_read.specs.Facts.{first_given}
 use Rattle.mps_read.specs.RowFacts.{state_at, fresh, free_place, fresh_row, valued, with_value, with_constant, with_marked}

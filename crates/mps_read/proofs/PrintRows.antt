@@ -17,7 +17,7 @@ digit n = decimal (pos n) (pos 0)
 
 abbrev one_column-model : MpsModel
 one_column-model = record {
-  name = codes "T3";
+  name = codes "one";
   maximise = false;
   objective = codes "c";
   constant = digit 0;
@@ -25,7 +25,7 @@ one_column-model = record {
   cols = record { name = codes "x"; integer = true; cost = digit 1; entries = []; low = Unset; high = At (digit 1) } ∷ [];
 }
 
-pub one_column : printed one_column-model ≡ codes "NAME T3\nROWS\n N c\nCOLUMNS\n M 'MARKER' 'INTORG'\n x c 1\n M 'MARKER' 'INTEND'\nBOUNDS\n UP BND x 1\nENDATA\n"
+pub one_column : printed one_column-model ≡ codes "NAME one\nROWS\n N c\nCOLUMNS\n M 'MARKER' 'INTORG'\n x c 1\n M 'MARKER' 'INTEND'\nBOUNDS\n UP BND x 1\nENDATA\n"
 unfolding digits
 one_column = refl
 

@@ -43,7 +43,7 @@ fn one_column(alloc: Global) -> Result<MpsModel, OutOfMemory>
         high: Limit::At(number(b"1")?),
     })?;
     Ok(MpsModel {
-        name: name(alloc, b"T3")?,
+        name: name(alloc, b"one")?,
         maximise: false,
         objective: name(alloc, b"c")?,
         constant: Decimal::zero(),
@@ -102,7 +102,7 @@ fn prints_a_model(rt: HostRuntime) -> Result<(), Fail> {
     let mps = one_column(alloc)?;
     let text = print(alloc, &mps)?;
     let expected: &[u8] =
-        b"NAME T3\nROWS\n N c\nCOLUMNS\n M 'MARKER' 'INTORG'\n x c 1\n M 'MARKER' 'INTEND'\nBOUNDS\n UP BND x 1\nENDATA\n";
+        b"NAME one\nROWS\n N c\nCOLUMNS\n M 'MARKER' 'INTORG'\n x c 1\n M 'MARKER' 'INTEND'\nBOUNDS\n UP BND x 1\nENDATA\n";
     assert!(rt; text.as_slice() == expected);
     Ok(())
 }

@@ -333,7 +333,7 @@ fn reads_to_the_end(rt: HostRuntime) -> Result<(), Fail> {
 
 /// One column x of cost 1 in 0 to 1.
 const ONE_COLUMN: &str =
-    "NAME T3\nROWS\n N c\nCOLUMNS\n M 'MARKER' 'INTORG'\n x c 1\nBOUNDS\n UP b x 1\n";
+    "NAME one\nROWS\n N c\nCOLUMNS\n M 'MARKER' 'INTORG'\n x c 1\nBOUNDS\n UP b x 1\n";
 
 #[test]
 fn refuses_the_end_and_a_repetition(rt: HostRuntime) -> Result<(), Fail> {
@@ -343,7 +343,7 @@ fn refuses_the_end_and_a_repetition(rt: HostRuntime) -> Result<(), Fail> {
     );
     assert_eq!(rt; MpsKind::NoEndata.number(), 14);
     let repeated =
-        b"NAME T3\nROWS\n N c\nCOLUMNS\n M 'MARKER' 'INTORG'\n x c 1 c 2\nBOUNDS\n UP b x 1\nENDATA\n";
+        b"NAME one\nROWS\n N c\nCOLUMNS\n M 'MARKER' 'INTORG'\n x c 1 c 2\nBOUNDS\n UP b x 1\nENDATA\n";
     assert_eq!(rt;
         refusal(rt.alloc(), repeated)?,
         Some((6, MpsKind::RepeatedEntry))

@@ -163,6 +163,8 @@ fn run_passes(
     requires solid { HasNoEmpty bounds.old }
     ensures whole { IfOk result (λ ended. counted_of (run_of bounds.new steps.new ended.0) ended.1 ≡ after_passes 10 rows.now cuts.now (open_run bounds.old steps.old) 0) }
     ensures few { IfOk result (λ ended. ended.1 ≤ 10) }
+    ensures within { IsWithin bounds.old bounds.new }
+    ensures solid { IfOk result (λ ended. ended.0 ≡ Open → HasNoEmpty bounds.new) }
     ensures replays { IsReplayed (row_named rows.now cuts.now) bounds.old steps.old bounds.new steps.new }
 {
     for passes in 0..MAX_PASSES {
@@ -211,6 +213,8 @@ pub fn propagate(
     ensures steps { OnOk result (steps.new ≡ (propagated model.now.rows cuts.now bounds.old).steps) }
     ensures run { IfOk result (λ run. run ≡ (propagated model.now.rows cuts.now bounds.old).run) }
     ensures replays { bounds.new ≡ replayed (row_named model.now.rows cuts.now) bounds.old steps.new }
+    ensures within { IsWithin bounds.old bounds.new }
+    ensures solid { IfOk result (λ run. run.outcome ≡ Open → HasNoEmpty bounds.new) }
     ensures keeps { HasMetPoints model.now.rows cuts.now bounds.old bounds.new }
     ensures none { IfOk result (λ run. run.outcome ≢ Open → HasNoMetPoint model.now.rows cuts.now bounds.old) }
 {

@@ -1,5 +1,5 @@
 ghost use Rattle.std.specs.Prelude.{◌≡◌, ◌↔◌, ◌<◌, length, IsTrue, None};
-ghost use Rattle.ip_core.specs.Boxes.{IsConflict};
+ghost use Rattle.ip_core.specs.Boxes.{IsConflict, IsWithin};
 ghost use Rattle.row_propagate.specs.Points.{HasNoRowPoint, HasRowPoints};
 ghost use Rattle.row_propagate.specs.Ready.{IsReady};
 ghost use Rattle.row_propagate.specs.Rounding.{tightened, tightening};
@@ -26,6 +26,7 @@ pub fn tighten(row: &Row, name: RowRef, bounds: &mut Bounds, col: u32) -> Option
     ensures sides { bounds.new ≡ tightened row.now bounds.old col }
     ensures answer { result ≡ tightening name row.now bounds.old col }
     ensures unchanged { (result ≡ None) ↔ (bounds.new ≡ bounds.old) }
+    ensures within { IsWithin bounds.old bounds.new }
     ensures keeps { HasRowPoints row.now bounds.old bounds.new }
 {
     let bound = narrower_bound(row, bounds, col)?;

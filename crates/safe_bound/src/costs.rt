@@ -7,7 +7,7 @@ ghost use Rattle.ip_core.specs.Rows.{coefficient};
 ghost use Rattle.safe_bound.specs.Weights.{weighted_coefficient, weighted_least as weighted_least_of};
 
 use crate::limits::{MAX_MULTIPLIER, SCALE};
-use ip_core::{Bounds, MAX_WIDTH, Model, Row, Term};
+use ip_core::{Bounds, Model, Row, Term};
 
 /// Writes the reduced cost of each column: 1,024 times its cost, less multiplier times coefficient for each row.
 pub fn reduce(model: &Model, cuts: &[Row], mults: &[u64], costs: &mut [i128])

@@ -1,10 +1,10 @@
 use Rattle.std.proofs.Common.{◌≡◌, ◌≢◌, ◌∙◌, ◌≤◌, ◌<◌, ◌+◌, ◌-◌, ◌*◌, ◌^◌, ◌==◌, ℕ, zero, suc, Bool, true, false, not, ◌&&◌, nat_le, int_le, List, [], ◌∷◌, ◌++◌, length, get_or, take, drop, reverse, ℤ, pos, neg_ℤ, ◌≤ℤ◌, Result, Ok, Err, refl, sym, ap, subst, arith, if◌then◌else◌}
-use Rattle.std.specs.List.{list_all, suffix_len, prefix_len}
-use Rattle.std.proofs.lemmas.Bool.{false≢true, ne_eqb}
+use Rattle.std.specs.List.{list_all, suffix_len}
+use Rattle.std.proofs.lemmas.Bool.{false≢true}
 use Rattle.std.proofs.lemmas.Bool.Decides.{nat_tests}
 use Rattle.std.proofs.lemmas.Int.{ints}
 use Rattle.std.proofs.lemmas.List.{length-drop, length-take-le, length-reverse, get_or-reverse}
-use Rattle.std.proofs.lemmas.List.Sums.{suffix_len-le-length, prefix_len_stops}
+use Rattle.std.proofs.lemmas.List.Sums.{prefix_len_stops}
 use Rattle.ip_core.specs.Decimals.{Number, IsDecimal, is_digit, is_zero, decimal, signed, leading, trailing, significant, power, parts, lacks_digits, reduced, is_in_range, read_decimal}
 use Rattle.ip_core.specs.declared.decimal.NumeralError.{NumeralError}
 use Rattle.ip_core.specs.declared.decimal.NumeralError.TheVariants.{BadByte, Empty}
