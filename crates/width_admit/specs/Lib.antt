@@ -1,0 +1,11 @@
+pub mod Exact
+pub mod Columns
+pub mod Sides
+pub mod ExactRows
+pub mod Gathered
+pub mod Held
+pub mod KindNumbers
+pub mod Admission
+pub mod Outcomes
+pub mod FilePoints
+pub mod Laws
