@@ -1,0 +1,7 @@
+use Rattle.std.proofs.Common.{◌≡◌, Bool, true, false, refl}
+use Rattle.std.specs.Prelude.{if◌then◌else◌}
+
+-- a choice by a test
+pub by_test : {A : Type 0} (P : A → Type 0) (b : Bool) (x y : A) → (b ≡ true → P x) → (b ≡ false → P y) → P (if b then x else y)
+by_test P true x y p q = p refl
+by_test P false x y p q = q refl

@@ -1,0 +1,17 @@
+pub mod WorkedRows
+pub mod Places
+pub mod Follows
+pub mod Turns
+pub mod Choices
+pub mod Least
+pub mod Standings
+pub mod Stops
+pub mod Joins
+pub mod Grows
+pub mod NextSlot
+pub mod Playing
+pub mod Orders
+pub mod Histories
+pub mod Merges
+pub mod Occurrences
+pub mod Keeping

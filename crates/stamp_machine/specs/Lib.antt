@@ -1,0 +1,11 @@
+pub mod Limits
+pub mod Slots
+pub mod Machine
+pub mod Kept
+pub mod Plays
+pub mod Runs
+pub mod Orders
+pub mod Laws
+pub mod Merges
+pub mod Relay
+pub mod RelayLaw

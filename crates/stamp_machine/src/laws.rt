@@ -1,0 +1,111 @@
+ghost use Rattle.stamp_machine.specs.Laws.{HasLesserKeysBefore, HaveKnownEnds, HaveFronts, IsLawfulAfter, HaveFittingLocals, HaveKnownLogs, AreChosen, ArePlayed, HasRisingClocks, HasRisingKeys, HasLastMove};
+ghost use Rattle.stamp_machine.specs.Limits.{AreLimits};
+ghost use Rattle.stamp_machine.specs.Machine.{final};
+ghost use Rattle.stamp_machine.specs.Merges.{HasLeastFirst, AreSame, HasSides, AreUnread};
+ghost use Rattle.stamp_machine.specs.Orders.{IsSorted};
+ghost use Rattle.ip_core.specs.Seq.{Seq};
+ghost use Rattle.std.specs.Prelude.{◌∷◌, ℕ};
+ghost use Rattle.work_stamp.specs.declared.key.Key.{Key};
+ghost use Rattle.work_stamp.specs.declared.stamped.KeyedEntry.{KeyedEntry};
+
+use crate::Limits;
+use work_stamp::Tasker;
+
+/// A law of the machine, with nothing to run: after any number of moves history and slots agree, views and locals fit, each
+/// entry may follow those before it, and there are fewer than 2^31 entries, none of a slot past the last.
+pub fn moves_keep_the_laws<T: Tasker>(tasker: &T, limits: &Limits)
+    requires { AreLimits limits.now }
+    ensures { (n : ℕ) → IsLawfulAfter (T.rules tasker.now) (T.fits_view tasker.now) (T.fits_local tasker.now) (T.may_follow tasker.now) (T.agrees tasker.now) limits.now n }
+{}
+
+/// A law of the machine, with nothing to run: the slot that moves has a greater clock afterwards, or is over.
+pub fn clocks_rise<T: Tasker>(tasker: &T, limits: &Limits)
+    requires { AreLimits limits.now }
+    ensures { HasRisingClocks (T.rules tasker.now) limits.now }
+{}
+
+/// A law of the machine, with nothing to run: the key of a move is below that of the next one.
+pub fn keys_rise<T: Tasker>(tasker: &T, limits: &Limits)
+    requires { AreLimits limits.now }
+    ensures { HasRisingKeys (T.rules tasker.now) limits.now }
+{}
+
+/// A law of the machine, with nothing to run: a slot makes at most work + 1 moves. After as many moves for each slot no slot
+/// lives, and nothing happens any more.
+pub fn machine_stops<T: Tasker>(tasker: &T, limits: &Limits)
+    requires { AreLimits limits.now }
+    ensures { HasLastMove (T.rules tasker.now) limits.now }
+{}
+
+/// A law of the machine, with nothing to run: no later entry of the history has a lesser key.
+pub fn history_is_sorted<T: Tasker>(tasker: &T, limits: &Limits)
+    requires { AreLimits limits.now }
+    ensures { IsSorted (final (T.rules tasker.now) limits.now).entries }
+{}
+
+/// A law of the machine, with nothing to run: when a slot is chosen, what stands below its key in the history is the
+/// history so far.
+pub fn lesser_keys_are_before<T: Tasker>(tasker: &T, limits: &Limits)
+    requires { AreLimits limits.now }
+    ensures { HasLesserKeysBefore (T.rules tasker.now) limits.now }
+{}
+
+/// A law of the machine, with nothing to run: each slot is at any time what its own moves make of it, if at each of them it
+/// sees what stands below its key in the history.
+pub fn slots_play_by_the_history<T: Tasker>(tasker: &T, limits: &Limits)
+    requires { AreLimits limits.now }
+    ensures { ArePlayed (T.rules tasker.now) limits.now }
+{}
+
+/// A law of the machine, with nothing to run: each live slot, by its own moves, is chosen at some move.
+pub fn live_slots_are_chosen<T: Tasker>(tasker: &T, limits: &Limits)
+    requires { AreLimits limits.now }
+    ensures { AreChosen (T.rules tasker.now) limits.now }
+{}
+
+/// A law of the machine, with nothing to run: the local of each live slot, by its own moves, fits.
+pub fn live_locals_fit<T: Tasker>(tasker: &T, limits: &Limits)
+    requires { AreLimits limits.now }
+    ensures { HaveFittingLocals (T.rules tasker.now) (T.fits_local tasker.now) limits.now }
+{}
+
+/// A law of the machine, with nothing to run: a live slot whose clock is at least a stamp never again publishes below it. Its
+/// entries begin with what it has published so far.
+pub fn logs_are_known<T: Tasker>(tasker: &T, limits: &Limits)
+    requires { AreLimits limits.now }
+    ensures { HaveKnownLogs (T.rules tasker.now) limits.now }
+{}
+
+/// A law of the machine, with nothing to run: a slot that is over has published all that it ever will.
+pub fn ends_are_known<T: Tasker>(tasker: &T, limits: &Limits)
+    requires { AreLimits limits.now }
+    ensures { HaveKnownEnds (T.rules tasker.now) limits.now }
+{}
+
+/// A law of the machine, with nothing to run: the history begins with what stands below a live slot's key, and then come
+/// the entries of that slot's move.
+pub fn moves_are_in_front<T: Tasker>(tasker: &T, limits: &Limits)
+    requires { AreLimits limits.now }
+    ensures { HaveFronts (T.rules tasker.now) limits.now }
+{}
+
+/// A law of the machine, with nothing to run: a move that a limit ends, or whose task has begun, is the same on every view.
+pub fn running_tasks_read_nothing<T: Tasker>(tasker: &T, limits: &Limits)
+    ensures { AreUnread (T.rules tasker.now) limits.now }
+{}
+
+/// A law of histories, with nothing to run: of another slot, what lies below a key is what it has published up to the key's
+/// stamp where its number is smaller, and below that stamp where it is larger.
+pub fn keys_part_by_slots()
+    ensures { (history : Seq KeyedEntry) (key : Key) (number : ℕ) → HasSides history key number }
+{}
+
+/// A law of histories, with nothing to run: in one that is sorted the first entry has the least key of all slots' first ones.
+pub fn least_key_is_first()
+    ensures { (entry : KeyedEntry) (rest : Seq KeyedEntry) → IsSorted (entry ∷ rest) → HasLeastFirst entry rest }
+{}
+
+/// A law of histories, with nothing to run: two that are sorted and have the same entries of each slot are the same.
+pub fn sorted_histories_are_same()
+    ensures { AreSame }
+{}

@@ -1,0 +1,244 @@
+ghost use Rattle.std.specs.Prelude.{◌≡◌, IfOk};
+ghost use Rattle.stamp_machine.specs.Limits.{AreLimits};
+ghost use Rattle.stamp_machine.specs.Relay.{found as found_of, leaf as leaf_of, one_more as one_more_of};
+
+use crate::{
+    History, Limits, clocks_rise, ends_are_known, history_is_sorted, keys_part_by_slots, keys_rise,
+    least_key_is_first, lesser_keys_are_before, live_locals_fit, live_slots_are_chosen,
+    logs_are_known, machine_stops, moves_are_in_front, moves_keep_the_laws, run_alone,
+    running_tasks_read_nothing, slots_play_by_the_history, sorted_histories_are_same,
+};
+use ip_core::{Closing, Leaf, List, OutOfMemory, Point, Record};
+use std::alloc::Global;
+use std::test::Fail;
+use work_stamp::{Begin, Chunk, Entry, Key, Pulse, Tasker};
+
+/// A small system of tasks. Three are taken in all, each by a slot that finds fewer than three begun. A task finds a point
+/// in its first chunk and ends in its second. A slot that finds three begun waits until three have ended.
+struct Relay;
+
+impl Tasker for Relay {
+    ghost use Rattle.stamp_machine.specs.RelayLaw.{relay_law};
+    ghost use Rattle.stamp_machine.specs.Relay.{Agrees, AreCounts, IsLocal, MayFollow, relay};
+
+    type View = (u64, u64);
+
+    type Local = u64;
+
+    ghost rules = { λ _. relay };
+
+    ghost fits_view = { λ _ counts. AreCounts counts };
+
+    ghost fits_local = { λ _ left. IsLocal left };
+
+    ghost may_follow = { λ _ history entry. MayFollow history entry };
+
+    ghost agrees = { λ _ history slots. Agrees history slots };
+
+    ghost lawful = { λ _. relay_law };
+
+    fn fresh_view(&self, _alloc: Global) -> Result<(u64, u64), OutOfMemory> {
+        Ok((0, 0))
+    }
+
+    fn fresh_local(&self, _alloc: Global, _slot: u32) -> Result<u64, OutOfMemory> {
+        Ok(0)
+    }
+
+    fn absorb(
+        &self,
+        _alloc: Global,
+        view: &mut (u64, u64),
+        _key: Key,
+        entry: &Entry,
+    ) -> Result<(), OutOfMemory> {
+        let (begun, ended) = *view;
+        match entry {
+            Entry::Start { .. } => *view = (one_more(begun), ended),
+            Entry::Done => *view = (begun, one_more(ended)),
+            _ => {}
+        }
+        Ok(())
+    }
+
+    fn at_start(&self, local: &u64) -> bool {
+        *local == 0
+    }
+
+    fn begin(
+        &self,
+        alloc: Global,
+        view: &(u64, u64),
+        local: &mut u64,
+    ) -> Result<Begin, OutOfMemory> {
+        let (begun, ended) = *view;
+        if begun < 3 {
+            let mut entries = List::new(alloc);
+            entries.push(Entry::Start { node: begun })?;
+            *local = 2;
+            return Ok(Begin::Take(entries));
+        }
+        Ok(if ended < 3 { Begin::Idle } else { Begin::End })
+    }
+
+    fn chunk<P: Pulse>(
+        &self,
+        alloc: Global,
+        local: &mut u64,
+        pulse: &mut P,
+    ) -> Result<Chunk, OutOfMemory> {
+        let mut entries = List::new(alloc);
+        let mut records = List::new(alloc);
+        if *local == 2 {
+            pulse.tick(399);
+            entries.push(found(alloc)?)?;
+            *local = 1;
+            return Ok(Chunk {
+                entries,
+                records,
+                work: 400,
+            });
+        }
+        entries.push(Entry::Done)?;
+        records.push(leaf(alloc))?;
+        *local = 0;
+        Ok(Chunk {
+            entries,
+            records,
+            work: 300,
+        })
+    }
+}
+
+fn one_more(count: u64) -> u64
+    ensures { result ≡ one_more_of count }
+{
+    if count < 3 { count + 1 } else { count }
+}
+
+/// A point of twenty columns.
+fn found(alloc: Global) -> Result<Entry, OutOfMemory>
+    ensures { IfOk result (λ entry. entry ≡ found_of) }
+{
+    let values = vec![in alloc; 0i64; 20]?;
+    Ok(Entry::Found {
+        value: 0,
+        point: Point::of(List::of(values)),
+    })
+}
+
+fn leaf(alloc: Global) -> Record
+    ensures { result ≡ leaf_of }
+{
+    Record {
+        node: 7,
+        leaf: Leaf {
+            steps: List::new(alloc),
+            closing: Closing::Empty(0),
+        },
+    }
+}
+
+/// A history in short: each entry with its key by the name of its kind, the number of records of each slot, and the ends.
+fn summary(alloc: Global, history: &History) -> Result<String, OutOfMemory> {
+    let mut text = String::new(alloc);
+    for item in history.entries.as_slice() {
+        let kind = match &item.entry {
+            Entry::Start { node } => format!(in alloc; "start {node}")?,
+            Entry::Found { .. } => format!(in alloc; "found")?,
+            Entry::Done => format!(in alloc; "done")?,
+            Entry::Halt => format!(in alloc; "halt")?,
+            _ => format!(in alloc; "other")?,
+        };
+        let line = format!(in alloc; "{} {} {kind}, ", item.key.stamp, item.key.slot)?;
+        text.push_str(line.as_str())?;
+    }
+    for records in history.records.as_slice() {
+        let line = format!(in alloc; "{} records, ", records.len())?;
+        text.push_str(line.as_str())?;
+    }
+    for end in history.ends.as_slice() {
+        let line = format!(in alloc; "end {end}, ")?;
+        text.push_str(line.as_str())?;
+    }
+    Ok(text)
+}
+
+fn played(alloc: Global, slots: u32, work: u64, store: u32) -> Result<String, OutOfMemory>
+    requires { AreLimits (record { slots = slots; work = work; store = store }) }
+{
+    let limits = Limits { slots, work, store };
+    let history = run_alone(alloc, &Relay, &limits)?;
+    summary(alloc, &history)
+}
+
+// At 700 slot 1 waits for slot 0, and both are over once three tasks have ended.
+#[test]
+fn two_slots_share_a_history(rt: HostRuntime) -> Result<(), Fail> {
+    let text = played(rt.alloc(), 2, 2_000, 1_000)?;
+    assert_eq!(rt;
+        text.as_str(),
+        "0 0 start 0, 0 1 start 1, 400 0 found, 400 1 found, 700 0 done, 700 0 start 2, 700 1 done, 1100 0 found, 1400 0 done, 2 records, 1 records, end 1400, end 1700, "
+    );
+    Ok(())
+}
+
+// The last entry of slot 0 would be its words 60 to 62, of 60 that it may publish. Slot 1 waits past the limit of work.
+#[test]
+fn a_full_slot_halts(rt: HostRuntime) -> Result<(), Fail> {
+    let text = played(rt.alloc(), 2, 2_000, 64)?;
+    assert_eq!(rt;
+        text.as_str(),
+        "0 0 start 0, 0 1 start 1, 400 0 found, 400 1 found, 700 0 done, 700 0 start 2, 700 1 done, 1100 0 found, 1400 0 halt, 1 records, 1 records, end 1400, end 2700, "
+    );
+    Ok(())
+}
+
+// What is pending at the limit of work is dropped with its record.
+#[test]
+fn work_ends_at_its_limit(rt: HostRuntime) -> Result<(), Fail> {
+    let text = played(rt.alloc(), 2, 700, 1_000)?;
+    assert_eq!(rt;
+        text.as_str(),
+        "0 0 start 0, 0 1 start 1, 400 0 found, 400 1 found, 0 records, 0 records, end 700, end 700, "
+    );
+    Ok(())
+}
+
+// Two whole tasks have 62 words, all that fit. A third one doesn't.
+#[test]
+fn a_task_that_does_not_fit_is_not_taken(rt: HostRuntime) -> Result<(), Fail> {
+    let text = played(rt.alloc(), 1, 5_000, 66)?;
+    assert_eq!(rt;
+        text.as_str(),
+        "0 0 start 0, 400 0 found, 700 0 done, 700 0 start 1, 1100 0 found, 1400 0 done, 1400 0 halt, 2 records, end 1400, "
+    );
+    Ok(())
+}
+
+// The laws have nothing to run. This shows that a system of tasks and limits meet what they ask.
+#[test]
+fn laws_are_said_of_the_relay(_rt: HostRuntime) -> Result<(), Fail> {
+    let limits = Limits {
+        slots: 2,
+        work: 2_000,
+        store: 1_000,
+    };
+    moves_keep_the_laws(&Relay, &limits);
+    clocks_rise(&Relay, &limits);
+    keys_rise(&Relay, &limits);
+    machine_stops(&Relay, &limits);
+    history_is_sorted(&Relay, &limits);
+    lesser_keys_are_before(&Relay, &limits);
+    slots_play_by_the_history(&Relay, &limits);
+    live_slots_are_chosen(&Relay, &limits);
+    live_locals_fit(&Relay, &limits);
+    logs_are_known(&Relay, &limits);
+    ends_are_known(&Relay, &limits);
+    moves_are_in_front(&Relay, &limits);
+    running_tasks_read_nothing(&Relay, &limits);
+    keys_part_by_slots();
+    least_key_is_first();
+    sorted_histories_are_same();
+    Ok(())
+}

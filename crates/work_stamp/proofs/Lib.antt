@@ -1,0 +1,5 @@
+pub mod Lists
+pub mod Fronts
+pub mod Reading
+pub mod ReadBack
+pub mod WorkedRows
