@@ -1,9 +1,13 @@
 pub mod Calls
+pub mod Commands
 pub mod Faults
 pub mod Files
 pub mod FileShelf
+pub mod Forms
+pub mod Jobs
 pub mod MemoryShelf
 pub mod MemorySink
+pub mod Numbers
 pub mod Shelf
 pub mod Sink
 pub mod StdoutSink

@@ -42,3 +42,23 @@ impl From<OutOfMemory> for WriteError {
         WriteError::Memory
     }
 }
+
+/// Why words give no job.
+#[derive(Clone, Copy, Debug, PartialEq, Eq, Error)]
+pub enum JobError {
+    #[error("refused words")]
+    Words,
+    #[error("out of memory")]
+    Memory,
+}
+
+impl From<OutOfMemory> for JobError {
+    ghost use Rattle.std.specs.Prelude.{◌≡◌};
+    ghost use Rattle.xsearch_words.specs.declared.error.JobError.TheVariants.{Memory};
+
+    ghost from_gives = { λ _ e. e ≡ Memory };
+
+    fn from(_error: OutOfMemory) -> JobError {
+        JobError::Memory
+    }
+}

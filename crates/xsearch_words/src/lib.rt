@@ -1,25 +1,31 @@
-//! The outside of the program: shelves of files that are read by name, and sinks that take text.
+//! The outside of the program: the words of the command line, shelves of files that are read by
+//! name, and sinks that take text.
 //!
 //! A shelf or a sink in memory tells contracts what it holds. The shelf of real files and the sink
 //! over the standard output tell nothing of that, and are trusted.
 #![tactic(auto)]
 
 mod calls;
+mod command;
 mod error;
 mod fault;
 mod file_shelf;
 mod files;
+mod form;
+mod job;
 mod memory_shelf;
 mod memory_sink;
+mod number;
 mod shelf;
 mod sink;
 mod stdout_sink;
 mod sure_shelf;
 mod sure_sink;
 
-pub use error::{ShelfError, WriteError};
+pub use error::{JobError, ShelfError, WriteError};
 pub use fault::LastFault;
 pub use file_shelf::FileShelf;
+pub use job::{Job, SolveJob, settings};
 pub use memory_shelf::MemoryShelf;
 pub use memory_sink::MemorySink;
 pub use shelf::Shelf;

@@ -130,3 +130,79 @@ fn a_sure_sink_takes_bytes(rt: HostRuntime) -> Result<(), Fail> {
     assert_eq!(rt; sink.bytes(), b"ab".as_slice());
     Ok(())
 }
+
+// What words are to ask.
+#[derive(Clone, Copy)]
+enum Want {
+    Nothing,
+    Solve(&'static str, u64, Option<u32>),
+    Show(&'static str),
+    Gen(u64),
+}
+
+type Case = (&'static [&'static str], Want);
+
+const CASES: [Case; 22] = [
+    (&["solve", "m3"], Want::Solve("m3", 200_000_000, None)),
+    (&["solve", "--work=007", "m3"], Want::Solve("m3", 7, None)),
+    (
+        &[
+            "solve",
+            "--default-upper=2147483648",
+            "m",
+            "--work=1000000000000",
+        ],
+        Want::Solve("m", 1_000_000_000_000, Some(2_147_483_648)),
+    ),
+    (&["show", "m"], Want::Show("m")),
+    (&["gen", "01"], Want::Gen(1)),
+    (&["gen", "18446744073709551615"], Want::Gen(u64::MAX)),
+    (&[], Want::Nothing),
+    (&["solve"], Want::Nothing),
+    (&["solve", ""], Want::Nothing),
+    (&["solve", "a", "b"], Want::Nothing),
+    (&["solve", "m3", "-x"], Want::Nothing),
+    (&["solve", "--", "m3"], Want::Nothing),
+    (&["--work=3"], Want::Nothing),
+    (&["--help"], Want::Nothing),
+    (&["solve", "m3", "--work=5", "--work=5"], Want::Nothing),
+    (&["solve", "m3", "--work"], Want::Nothing),
+    (&["solve", "m3", "--work="], Want::Nothing),
+    (&["solve", "m3", "--work=1000000000001"], Want::Nothing),
+    (&["solve", "m", "--default-upper=2147483649"], Want::Nothing),
+    (&["show", "--default-upper=1", "m"], Want::Nothing),
+    (&["gen", "18446744073709551616"], Want::Nothing),
+    (&["gen", "000000000000000000007"], Want::Nothing),
+];
+
+fn is_solve(job: &SolveJob, model: &str, work: u64, default_upper: Option<u32>) -> bool {
+    job.model.as_slice() == model.as_bytes()
+        && job.work == work
+        && job.default_upper == default_upper
+}
+
+// Whether the words ask what is wanted.
+fn asks(alloc: Global, case: Case) -> Result<bool, OutOfMemory> {
+    let mut words = Vec::new(alloc);
+    for word in case.0 {
+        words.push(String::from_str(alloc, word)?)?;
+    }
+    Ok(match (settings(alloc, words.as_slice()), case.1) {
+        (Ok(Job::Solve(job)), Want::Solve(model, work, upper)) => is_solve(
+            &job, model, work, upper,
+        ),
+        (Ok(Job::Show(model)), Want::Show(want)) => model.as_slice() == want.as_bytes(),
+        (Ok(Job::Gen(number)), Want::Gen(want)) => number == want,
+        (Err(JobError::Words), Want::Nothing) => true,
+        (Err(JobError::Memory), _) => return Err(OutOfMemory),
+        _ => false,
+    })
+}
+
+#[test]
+fn words_ask_jobs(rt: HostRuntime) -> Result<(), Fail> {
+    for (place, case) in CASES.iter().enumerate() {
+        assert!(rt; asks(rt.alloc(), *case)?, "at row {place}");
+    }
+    Ok(())
+}

@@ -1,0 +1,10 @@
+pub mod Series
+pub mod KnapsackLaws
+pub mod WholeReads
+pub mod WholeLaws
+pub mod NameLaws
+pub mod SampleLaws
+pub mod SampleSizes
+pub mod AdmitLaws
+pub mod AdmittedSamples
+pub mod Examples

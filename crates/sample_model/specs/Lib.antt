@@ -1,0 +1,5 @@
+pub mod Draws
+pub mod Wholes
+pub mod Knapsacks
+pub mod Samples
+pub mod Laws

@@ -1,0 +1,10 @@
+use Rattle.std.proofs.Common.{◌≡◌, ◌≤◌, ◌+◌, map, drop, length}
+use Rattle.std.specs.String.{string_bytes}
+use Rattle.xsearch_words.specs.Forms.{names}
+use Rattle.xsearch_words.proofs.form.count_names.Given as goal
+
+abbrev pub invariant-loop-word : goal.invariant-loop-word
+invariant-loop-word l = record {
+  rest : l.count + length (names (map string_bytes (drop l.word-index l.words))) ≡ length (names (map string_bytes l.words));
+  few : l.count ≤ l.word-index;
+}

@@ -1,0 +1,65 @@
+ghost use Rattle.std.specs.Prelude.{◌≡◌};
+ghost use Rattle.xsearch_words.specs.Commands.{command_of, front as front_of, keys_of, name_count};
+
+/// A command of the program.
+#[derive(Clone, Copy, Debug)]
+pub(crate) enum Command {
+    Solve,
+    Show,
+    Gen,
+}
+
+/// A key of the options.
+#[derive(Clone, Copy, Debug)]
+pub(crate) enum Key {
+    Work,
+    DefaultUpper,
+}
+
+impl Command {
+    /// The command of a word.
+    pub(crate) fn of(word: &[u8]) -> Option<Command>
+        ensures { result ≡ command_of word.now }
+    {
+        if word == b"solve".as_slice() {
+            Some(Command::Solve)
+        } else if word == b"show".as_slice() {
+            Some(Command::Show)
+        } else if word == b"gen".as_slice() {
+            Some(Command::Gen)
+        } else {
+            None
+        }
+    }
+
+    /// How many names the command has.
+    pub(crate) fn name_count(self) -> usize
+        ensures { result ≡ name_count self }
+    {
+        match self {
+            Command::Solve | Command::Show | Command::Gen => 1,
+        }
+    }
+
+    /// The keys of the command.
+    pub(crate) fn keys(self) -> &'static [Key]
+        ensures { result.now ≡ keys_of self }
+    {
+        match self {
+            Command::Solve => &[Key::Work, Key::DefaultUpper],
+            Command::Show | Command::Gen => &[],
+        }
+    }
+}
+
+impl Key {
+    /// What a word that gives the key a value begins with.
+    pub(crate) fn front(self) -> &'static [u8]
+        ensures { result.now ≡ front_of self }
+    {
+        match self {
+            Key::Work => b"--work=",
+            Key::DefaultUpper => b"--default-upper=",
+        }
+    }
+}

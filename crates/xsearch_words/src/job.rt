@@ -1,0 +1,123 @@
+ghost use Rattle.std.specs.Prelude.{◌≡◌, ◌≤◌, ◌^◌, map, IfOk, IfSome, IsTrue, MatchResult};
+ghost use Rattle.std.specs.String.{string_bytes};
+ghost use Rattle.xsearch_words.specs.Jobs.{IsJob, IsJobCause, IsJobOf, IsSolveJob, command_job as command_job_of, gen_number as gen_number_of, solve_job as solve_job_of};
+ghost use Rattle.xsearch_words.specs.Forms.{is_name, name_at as name_at_of};
+
+use crate::JobError;
+use crate::command::{Command, Key};
+use crate::form::{has_form, name_at, value};
+use crate::number::{number_between, number_or, optional_number};
+use ip_core::{OutOfMemory, Text};
+use std::alloc::Global;
+
+/// The limit on counted work where the words give none.
+const DEFAULT_WORK: u64 = 200_000_000;
+
+/// The greatest limit on counted work.
+const MAX_WORK: u64 = 1_000_000_000_000;
+
+/// The greatest upper bound of the columns that have none of their own.
+const MAX_UPPER: u32 = 2_147_483_648;
+
+/// What the words of the command line ask.
+#[derive(Debug, Drop)]
+pub enum Job {
+    /// To solve a model.
+    Solve(SolveJob),
+    /// To show the model of the file of this name.
+    Show(Text),
+    /// To generate the model of this number.
+    Gen(u64),
+}
+
+/// What `solve` is asked.
+#[derive(Debug, Drop)]
+pub struct SolveJob {
+    /// The name of the model's file.
+    pub model: Text,
+    /// The limit on counted work, at most 10^12.
+    pub work: u64,
+    /// The upper bound of each column that has none of its own, at most 2^31, if one is given.
+    pub default_upper: Option<u32>,
+}
+
+/// What the words of the command line ask, without the program's name.
+///
+/// The first word is the command, which is one of `solve MODEL [--work=N] [--default-upper=N]`,
+/// `show MODEL` and `gen NUMBER`. Each further word is `--key=value` with a key of the command, at
+/// most once each, or a name: a word that isn't empty and doesn't begin with `-`. There are exactly
+/// as many names as the command has, and options may stand before, between and after them. A
+/// number is 1 to 20 decimal digits within its range: N of `--work` is at most 10^12, and without
+/// it 200,000,000; N of `--default-upper` is at most 2^31; NUMBER is at most 2^64 - 1. `Words` is
+/// answered exactly where the words ask nothing by these rules, unless memory runs out.
+pub fn settings(alloc: Global, words: &[String]) -> Result<Job, JobError>
+    ensures answer { MatchResult result (IsJobOf (map string_bytes words.now)) (IsJobCause (map string_bytes words.now)) }
+    ensures kept { IfOk result IsJob }
+{
+    let [first, words @ ..] = words else {
+        return Err(JobError::Words);
+    };
+    let Some(command) = Command::of(first.as_bytes()) else {
+        return Err(JobError::Words);
+    };
+    if !has_form(command, words) {
+        return Err(JobError::Words);
+    }
+    match command_job(alloc, command, words)? {
+        Some(job) => Ok(job),
+        None => Err(JobError::Words),
+    }
+}
+
+/// What words of the command's form ask, or None where one of their values isn't lawful.
+fn command_job(
+    alloc: Global,
+    command: Command,
+    words: &[String],
+) -> Result<Option<Job>, OutOfMemory>
+    ensures value { IfOk result (λ job. job ≡ command_job_of command (map string_bytes words.now)) }
+    ensures kept { IfOk result (λ job. IfSome job IsJob) }
+{
+    Ok(match command {
+        Command::Solve => solve_job(alloc, words)?.map(Job::Solve),
+        Command::Show => file_name(alloc, words)?.map(Job::Show),
+        Command::Gen => gen_number(words).map(Job::Gen),
+    })
+}
+
+fn solve_job(alloc: Global, words: &[String]) -> Result<Option<SolveJob>, OutOfMemory>
+    ensures value { IfOk result (λ job. job ≡ solve_job_of (map string_bytes words.now)) }
+    ensures kept { IfOk result (λ job. IfSome job IsSolveJob) }
+{
+    let Some(model) = file_name(alloc, words)? else {
+        return Ok(None);
+    };
+    let Some(work) = number_or(DEFAULT_WORK, 0, MAX_WORK, value(Key::Work, words)) else {
+        return Ok(None);
+    };
+    let Some(default_upper) = optional_number(0, MAX_UPPER, value(Key::DefaultUpper, words)) else {
+        return Ok(None);
+    };
+    Ok(Some(SolveJob {
+        model,
+        work,
+        default_upper,
+    }))
+}
+
+/// A copy of the first name among the words.
+fn file_name(alloc: Global, words: &[String]) -> Result<Option<Text>, OutOfMemory>
+    ensures value { IfOk result (λ name. name ≡ name_at_of 0 (map string_bytes words.now)) }
+    ensures name { IfOk result (λ name. IfSome name (λ bytes. IsTrue (is_name bytes))) }
+{
+    let Some(name) = name_at(0, words) else {
+        return Ok(None);
+    };
+    Ok(Some(Text::of(Vec::from_slice(alloc, name)?)))
+}
+
+fn gen_number(words: &[String]) -> Option<u64>
+    ensures { result ≡ gen_number_of (map string_bytes words.now) }
+{
+    number_between(name_at(0, words)?, 0, u64::MAX)
+}
