@@ -1,4 +1,4 @@
-NAME T3
+NAME one
 ROWS
  N c
 COLUMNS

@@ -1,0 +1,4 @@
+pub mod Examples
+pub mod Refused
+pub mod Running
+pub mod SmallModels

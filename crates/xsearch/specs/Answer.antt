@@ -1,5 +1,6 @@
 use Rattle.std.specs.Prelude.{ℕ, if◌then◌else◌, List, [], ◌∷◌, ◌++◌, length, ◌≡◌, ℤ, ◌+ℤ◌, neg_ℤ, codes, Option, Some, None}
 use Rattle.std.specs.Fmt.{signed_decimal}
+use Rattle.ip_core.specs.Texts.{decimal_text}
 use Rattle.ip_core.specs.declared.model.ModelParts.{ModelParts}
 use Rattle.plain_search.specs.declared.answer.Status.{Status}
 use Rattle.plain_search.specs.declared.answer.Status.TheVariants.{Optimal, Infeasible, WorkLimit}
@@ -8,6 +9,10 @@ use Rattle.plain_search.specs.declared.view.Best.{Best}
 -- the objective of a value: with the constant, and negated where the model maximises
 abbrev pub objective_of : ModelParts → ℤ → ℤ
 objective_of m value = if m.maximise then neg_ℤ (value +ℤ m.constant) else (value +ℤ m.constant)
+
+-- it is printed with the decimals of the model
+abbrev pub objective_line : ModelParts → ℤ → List ℕ
+objective_line m value = codes "objective " ++ decimal_text (objective_of m value) m.decimals ++ codes "\n"
 
 -- the line of a column: its name, ` = ` and its value
 abbrev pub column_line : List ℕ → ℤ → List ℕ
@@ -19,10 +24,10 @@ column_lines [] xs = []
 column_lines (name ∷ names) [] = []
 column_lines (name ∷ names) (x ∷ xs) = column_line name x ++ column_lines names xs
 
--- the objective and the columns of a point, for a model without decimals, or that there is none
+-- the objective and the columns of a point, or that there is none
 abbrev pub point_text : ModelParts → Option Best → List ℕ
 point_text m None = codes "objective none\n"
-point_text m (Some best) = codes "objective " ++ signed_decimal (objective_of m best.value) ++ codes "\n" ++ column_lines m.cols best.point
+point_text m (Some best) = objective_line m best.value ++ column_lines m.cols best.point
 
 -- the text of an answer: its status, and unless no point is feasible the point and its objective
 abbrev pub answer_text : ModelParts → Status → Option Best → List ℕ

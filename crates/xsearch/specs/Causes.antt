@@ -1,7 +1,9 @@
+-- The cause of what a command found.
 use Rattle.std.specs.Prelude.{ℕ, ◌≡◌, List, Option, Some, None, Result, Ok, Err}
 use Rattle.ip_core.specs.Truth.{IsBest, HasNoPoint}
 use Rattle.ip_core.specs.declared.model.ModelParts.{ModelParts}
-use Rattle.plain_read.specs.Readings.{Reads, IsRefused}
+use Rattle.mps_read.specs.Prints.{printed}
+use Rattle.mps_read.specs.declared.model.MpsModel.{MpsModel}
 use Rattle.plain_search.specs.Answers.{status_of}
 use Rattle.plain_search.specs.Machine.{history}
 use Rattle.plain_search.specs.Sound.{IsFound}
@@ -10,13 +12,20 @@ use Rattle.plain_search.specs.declared.answer.Status.{Status}
 use Rattle.plain_search.specs.declared.answer.Status.TheVariants.{Optimal, Infeasible, WorkLimit}
 use Rattle.plain_search.specs.declared.view.Best.{Best}
 use Rattle.plain_search.specs.declared.view.View.{View}
-use Rattle.xsearch_words.specs.Faults.{HasFailed, failed_read}
+use Rattle.width_admit.specs.Admission.{Admits, refusal}
+use Rattle.width_admit.specs.declared.error.AdmitError.{AdmitError}
+use Rattle.sample_model.specs.Samples.{generated}
+use Rattle.xsearch_words.specs.Jobs.{job}
+use Rattle.xsearch_words.specs.declared.job.Job.{Job}
+use Rattle.xsearch_words.specs.declared.job.Job.TheVariants.{Solve, Show, Gen}
 use Rattle.xsearch.specs.Answer.{answer_text}
-use Rattle.xsearch.specs.Shelves.{ShelfState, IsFile, IsLongFile}
-use Rattle.xsearch.specs.Words.{Asked, asked}
-use Rattle.xsearch.specs.declared.failure.Answered.{Answered}
-use Rattle.xsearch.specs.declared.failure.Failure.{Failure}
-use Rattle.xsearch.specs.declared.failure.Failure.TheVariants.{Words, Length, Line, Unread, Memory}
+use Rattle.xsearch.specs.ModelFiles.{IsOfFile}
+use Rattle.xsearch.specs.Shelves.{ShelfState}
+use Rattle.xsearch.specs.declared.outcome.Answer.{Answer}
+use Rattle.xsearch.specs.declared.outcome.Outcome.{Outcome}
+use Rattle.xsearch.specs.declared.outcome.Outcome.TheVariants.{Answered, Printed}
+use Rattle.xsearch.specs.declared.outcome.Failure.{Failure}
+use Rattle.xsearch.specs.declared.outcome.Failure.TheVariants.{Words, Model, Memory}
 
 -- What a status says: an optimal answer has a best point, an infeasible one says that no point is feasible, and one at the
 -- limit says nothing.
@@ -27,50 +36,37 @@ IsTrueStatus m Infeasible best = HasNoPoint m
 IsTrueStatus m WorkLimit best = Unit {0}
 
 -- the answer of a view: its status and text, and what they say of the model is true
-pub record IsAnswerOf (m : ModelParts) (v : View) (answered : Answered) : Type 0 where
-  pub status : answered.status ≡ status_of v
-  pub printed : answered.text ≡ answer_text m answered.status v.best
-  pub truth : IsTrueStatus m answered.status v.best
+pub record IsAnswerOf (m : ModelParts) (v : View) (answer : Answer) : Type 0 where
+  pub status : answer.status ≡ status_of v
+  pub printed : answer.text ≡ answer_text m answer.status v.best
+  pub truth : IsTrueStatus m answer.status v.best
   pub found : IsFound m v.best
 
 -- the answer is that of the machine's whole history, with this limit on counted work
-abbrev pub IsAnswer : ModelParts → ℕ → Answered → Type 0
-IsAnswer m work answered = IsAnswerOf m (view_of m (history m work)) answered
+abbrev pub IsAnswer : ModelParts → ℕ → Answer → Type 0
+IsAnswer m work answer = IsAnswerOf m (view_of m (history m work)) answer
 
--- the answer is that of the model that the bytes read as
-pub record Answers (bytes : List ℕ) (work : ℕ) (answered : Answered) : Type 0 where
-  pub model : ModelParts
-  pub reads : Reads bytes model
-  pub answer : IsAnswer model work answered
+-- What solving a file's model finds: the answer of the model that it is admitted as, the reason why it isn't admitted, or
+-- no memory, which is free.
+pub data IsSolved (work : ℕ) (upper : Option ℕ) (mps : MpsModel) (found : Result Outcome Failure) : Type 0 where
+  Solved : (m : ModelParts) (answer : Answer) → found ≡ Ok (Answered answer) → Admits mps upper m → IsAnswer m work answer → IsSolved work upper mps found
+  NotAdmitted : (error : AdmitError) → found ≡ Err (Model error) → refusal mps upper ≡ Some error → IsSolved work upper mps found
+  Unsolved : found ≡ Err Memory → IsSolved work upper mps found
 
--- The cause of what was found of bytes: an answer, a refused line, or want of memory. No other failure comes of them.
-abbrev pub IsFoundIn : List ℕ → ℕ → Result Answered Failure → Type 0
-IsFoundIn bytes work (Ok answered) = Answers bytes work answered
-IsFoundIn bytes work (Err Words) = ⊥
-IsFoundIn bytes work (Err Length) = ⊥
-IsFoundIn bytes work (Err (Line line)) = IsRefused bytes line
-IsFoundIn bytes work (Err Unread) = ⊥
-IsFoundIn bytes work (Err Memory) = Unit {0}
+-- what printing a model finds: its canonical text, or no memory
+pub data IsPrinted (mps : MpsModel) (found : Result Outcome Failure) : Type 0 where
+  Canonical : found ≡ Ok (Printed (printed mps)) → IsPrinted mps found
+  Unprinted : found ≡ Err Memory → IsPrinted mps found
 
--- what was found comes of the file of this name
-pub record IsFoundOn (shelf : ShelfState) (name : List ℕ) (work : ℕ) (found : Result Answered Failure) : Type 0 where
-  pub bytes : List ℕ
-  pub file : IsFile shelf name bytes
-  pub cause : IsFoundIn bytes work found
+-- what a job finds has its cause in the job and the shelf
+abbrev pub IsCausedBy : Job → ShelfState → ShelfState → Result Outcome Failure → Type 0
+IsCausedBy (Solve asked) old new found = IsOfFile (IsSolved asked.work asked.default_upper) old new asked.model found
+IsCausedBy (Show model) old new found = IsOfFile IsPrinted old new model found
+IsCausedBy (Gen number) old new found = IsPrinted (generated number) found
 
--- the cause of what became of the model file of this name
-abbrev pub IsCausedBy : ShelfState → ShelfState → List ℕ → ℕ → Result Answered Failure → Type 0
-IsCausedBy old new name work (Ok answered) = IsFoundOn old name work (Ok answered)
-IsCausedBy old new name work (Err Words) = ⊥
-IsCausedBy old new name work (Err Length) = IsLongFile old name
-IsCausedBy old new name work (Err (Line line)) = IsFoundOn old name work (Err (Line line))
-IsCausedBy old new name work (Err Unread) = HasFailed old.faults new.faults new.last (failed_read name)
-IsCausedBy old new name work (Err Memory) = Unit {0}
-
--- the cause of what became of the words: they ask nothing, or it is that of the file that they ask for
-abbrev pub IsCausedFor : ShelfState → ShelfState → Option Asked → Result Answered Failure → Type 0
-IsCausedFor old new None found = found ≡ Err Words
-IsCausedFor old new (Some asks) found = IsCausedBy old new asks.name asks.work found
-
-abbrev pub IsCaused : List (List ℕ) → ShelfState → ShelfState → Result Answered Failure → Type 0
-IsCaused words old new found = IsCausedFor old new (asked words) found
+-- What words find has its cause in the job that they ask for. Where they ask nothing, they are refused. Want of memory is
+-- free.
+pub data IsCaused (words : List (List ℕ)) (old new : ShelfState) (found : Result Outcome Failure) : Type 0 where
+  Asked : (asked : Job) → job words ≡ Some asked → IsCausedBy asked old new found → IsCaused words old new found
+  Unasked : found ≡ Err Words → job words ≡ None → IsCaused words old new found
+  Starved : found ≡ Err Memory → IsCaused words old new found

@@ -1,13 +1,16 @@
-use Rattle.std.specs.Prelude.{ℕ, ◌≡◌, List, ◌++◌, Result, Ok, Err, codes}
-use Rattle.std.specs.Fmt.{decimal}
+use Rattle.std.specs.Prelude.{ℕ, ◌≡◌, List, Result, Ok, Err}
+use Rattle.mps_read.specs.KindNumbers.{kind_number}
+use Rattle.width_admit.specs.KindNumbers.{kind_of, index_of}
 use Rattle.xsearch_words.specs.Faults.{HasRisen}
 use Rattle.xsearch_words.specs.Sink.{GrowsBy, GrowsByFront}
+use Rattle.xsearch.specs.Refusals.{words_refusal, length_refusal, mps_refusal, model_refusal}
 use Rattle.xsearch.specs.Shelves.{SinkState}
 use Rattle.plain_search.specs.declared.answer.Status.{Status}
 use Rattle.plain_search.specs.declared.answer.Status.TheVariants.{Optimal, Infeasible, WorkLimit as SearchLimit}
-use Rattle.xsearch.specs.declared.failure.Answered.{Answered}
-use Rattle.xsearch.specs.declared.failure.Failure.{Failure}
-use Rattle.xsearch.specs.declared.failure.Failure.TheVariants.{Words, Length, Line, Unread, Memory}
+use Rattle.xsearch.specs.declared.outcome.Outcome.{Outcome}
+use Rattle.xsearch.specs.declared.outcome.Outcome.TheVariants.{Answered, Printed}
+use Rattle.xsearch.specs.declared.outcome.Failure.{Failure}
+use Rattle.xsearch.specs.declared.outcome.Failure.TheVariants.{Words, Length, Mps, Model, Unread, Memory}
 use Rattle.xsearch.specs.declared.status.ExitStatus.{ExitStatus}
 use Rattle.xsearch.specs.declared.status.ExitStatus.TheVariants.{Done, WorkLimit, RefusedWords, RefusedInput, ShelfFailed, SinkFailed, NoMemory}
 
@@ -33,9 +36,6 @@ pub record IsSilent (old new : SinkState) (meant status : ExitStatus) : Type 0 w
   pub exit : status ≡ meant
   pub nothing : new.out ≡ old.out
 
-abbrev pub line_refusal : ℕ → List ℕ
-line_refusal line = codes "refused plain line " ++ decimal line ++ codes "\n"
-
 -- an answer ends a run with status 0, and with 3 where the search met its limit
 abbrev pub exit_of : Status → ExitStatus
 exit_of Optimal = Done
@@ -43,10 +43,12 @@ exit_of Infeasible = Done
 exit_of SearchLimit = WorkLimit
 
 -- how a run ends, by what was found
-abbrev pub EndsAs : Result Answered Failure → SinkState → SinkState → ExitStatus → Type 0
-EndsAs (Ok answered) old new status = IsPut old new answered.text (exit_of answered.status) status
-EndsAs (Err Words) old new status = IsPut old new (codes "refused words\n") RefusedWords status
-EndsAs (Err Length) old new status = IsPut old new (codes "refused length\n") RefusedInput status
-EndsAs (Err (Line line)) old new status = IsPut old new (line_refusal line) RefusedInput status
+abbrev pub EndsAs : Result Outcome Failure → SinkState → SinkState → ExitStatus → Type 0
+EndsAs (Ok (Answered answer)) old new status = IsPut old new answer.text (exit_of answer.status) status
+EndsAs (Ok (Printed text)) old new status = IsPut old new text Done status
+EndsAs (Err Words) old new status = IsPut old new words_refusal RefusedWords status
+EndsAs (Err Length) old new status = IsPut old new length_refusal RefusedInput status
+EndsAs (Err (Mps line kind)) old new status = IsPut old new (mps_refusal line (kind_number kind)) RefusedInput status
+EndsAs (Err (Model error)) old new status = IsPut old new (model_refusal (kind_of error) (index_of error)) RefusedInput status
 EndsAs (Err Unread) old new status = IsSilent old new ShelfFailed status
 EndsAs (Err Memory) old new status = IsSilent old new NoMemory status

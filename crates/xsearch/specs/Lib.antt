@@ -1,7 +1,7 @@
 pub mod Answer
 pub mod Causes
 pub mod Endings
-pub mod Requests
+pub mod ModelFiles
+pub mod Refusals
 pub mod Runs
 pub mod Shelves
-pub mod Words

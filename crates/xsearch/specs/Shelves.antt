@@ -1,7 +1,7 @@
 use Rattle.std.specs.Prelude.{ℕ, ◌≡◌, ◌<◌, ◌≤◌, List, length, Option, IfSome}
 use Rattle.xsearch_words.specs.Files.{Files, contents}
 use Rattle.xsearch_words.specs.declared.fault.LastFault.{LastFault}
-use Rattle.xsearch.specs.declared.solve.TheConstants.{MAX_MODEL_FILE}
+use Rattle.xsearch.specs.declared.model_file.TheConstants.{MAX_MODEL_FILE}
 
 -- what a shelf tells: its files, its count of faults, and the last fault
 pub record ShelfState : Type 0 where

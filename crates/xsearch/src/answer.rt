@@ -1,7 +1,7 @@
 ghost use Rattle.std.specs.Prelude.{◌≡◌, ◌++◌, length, IfOk, OnOk};
-ghost use Rattle.xsearch.specs.Answer.{HasOneEach, answer_text as answer_text_of, column_line, column_lines, objective_of, point_text};
+ghost use Rattle.xsearch.specs.Answer.{HasOneEach, answer_text as answer_text_of, column_line, column_lines, objective_of, objective_line as objective_line_of, point_text};
 
-use ip_core::{Model, Name, OutOfMemory, Text};
+use ip_core::{Model, Name, OutOfMemory, Text, decimal};
 use itoa::Buffer;
 use plain_search::{Best, Status};
 use std::alloc::Global;
@@ -13,49 +13,60 @@ pub fn answer_text(
     status: Status,
     best: &Option<Best>,
 ) -> Result<Text, OutOfMemory>
-    requires whole { model.now.decimals ≡ 0 }
-    requires one_each { HasOneEach model.now best.now }
+    requires { HasOneEach model.now best.now }
     ensures { IfOk result (λ text. text ≡ answer_text_of model.now status best.now) }
 {
     let mut text = Text::new(alloc);
     match status {
         Status::Optimal => {
             text.extend(b"status optimal\n")?;
-            append_point(&mut text, model, best)?;
+            append_point(alloc, &mut text, model, best)?;
         }
         Status::Infeasible => text.extend(b"status infeasible\n")?,
         Status::WorkLimit => {
             text.extend(b"status worklimit\n")?;
-            append_point(&mut text, model, best)?;
+            append_point(alloc, &mut text, model, best)?;
         }
     }
     Ok(text)
 }
 
-fn append_point(text: &mut Text, model: &Model, best: &Option<Best>) -> Result<(), OutOfMemory>
+fn append_point(
+    alloc: Global,
+    text: &mut Text,
+    model: &Model,
+    best: &Option<Best>,
+) -> Result<(), OutOfMemory>
     requires { HasOneEach model.now best.now }
     ensures { OnOk result (text.new ≡ text.old ++ point_text model.now best.now) }
 {
     match best {
         None => text.extend(b"objective none\n"),
         Some(best) => {
-            text.extend(b"objective ")?;
-            text.extend(
-                Buffer::new()
-                    .format(objective(model, best.value))
-                    .as_bytes(),
-            )?;
-            text.push(b'\n')?;
+            text.extend(objective_line(alloc, model, best)?.as_slice())?;
             append_columns(text, model.cols(), best.point.values())
         }
     }
 }
 
-/// The objective of a value: with the constant, and negated where the model maximises.
-fn objective(model: &Model, value: i64) -> i128
-    ensures { result ≡ objective_of model.now value }
+/// The line of the objective, with the decimals of the model.
+fn objective_line(alloc: Global, model: &Model, best: &Best) -> Result<Text, OutOfMemory>
+    ensures { IfOk result (λ line. line ≡ objective_line_of model.now best.now.value) }
 {
-    let sum = i128::from(value) + i128::from(model.constant());
+    let decimals = model.parts().decimals;
+    let number = decimal::text(alloc, objective(model, best), decimals)?;
+    let mut line = Text::new(alloc);
+    line.extend(b"objective ")?;
+    line.extend(number.as_slice())?;
+    line.push(b'\n')?;
+    Ok(line)
+}
+
+/// The objective of a point: with the constant, and negated where the model maximises.
+fn objective(model: &Model, best: &Best) -> i128
+    ensures { result ≡ objective_of model.now best.now.value }
+{
+    let sum = i128::from(best.value) + i128::from(model.constant());
     if model.maximise() { -sum } else { sum }
 }
 

@@ -2,14 +2,20 @@
 #![tactic(auto)]
 
 mod answer;
-mod failure;
+mod generate;
+mod model_file;
+mod outcome;
+mod refusal;
 mod report;
 mod run;
+mod show;
 mod solve;
 mod status;
-mod words;
 
+pub use generate::gen_command;
 pub use run::run;
+pub use show::show_command;
+pub use solve::solve_alone;
 use std::process::ExitCode;
 use std::rt::Env;
 use std::{env, io};

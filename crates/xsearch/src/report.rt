@@ -1,47 +1,69 @@
-ghost use Rattle.std.specs.Prelude.{◌≡◌, ◌++◌, codes, IfOk};
-ghost use Rattle.xsearch.specs.Endings.{EndsAs, IsPut, line_refusal};
+ghost use Rattle.std.specs.Prelude.{◌≡◌, Err};
+ghost use Rattle.mps_read.specs.KindNumbers.{kind_number};
+ghost use Rattle.width_admit.specs.KindNumbers.{index_of, kind_of};
+ghost use Rattle.xsearch.specs.Endings.{EndsAs, IsPut};
+ghost use Rattle.xsearch.specs.Runs.{Ends};
+ghost use Rattle.xsearch.specs.Refusals.{model_refusal as model_refusal_of, mps_refusal as mps_refusal_of};
 
-use crate::failure::{Answered, Failure};
-use crate::status::{ExitStatus, exit_status};
-use ip_core::{OutOfMemory, Text};
-use itoa::Buffer;
+use crate::outcome::{Failure, Outcome};
+use crate::refusal::{model_refusal, mps_refusal};
+use crate::status::{ExitStatus, exit_code, exit_status};
+use ip_core::OutOfMemory;
+use mps_read::MpsKind;
 use std::alloc::Global;
+use width_admit::AdmitError;
 use xsearch_words::{Sink, WriteError};
 
+/// Puts what was found, and answers the exit status.
+pub fn finish<O: Sink>(alloc: Global, found: Result<Outcome, Failure>, out: &mut O) -> u8
+    ensures { Ends (λ f. f ≡ found) (record { out = O.told out.old; faults = O.faults out.old }) (record { out = O.told out.new; faults = O.faults out.new }) result }
+{
+    exit_code(report(alloc, found, out))
+}
+
 /// Puts what was found: the text of the command, one refusal line, or nothing.
-pub fn report<O: Sink>(alloc: Global, found: Result<Answered, Failure>, out: &mut O) -> ExitStatus
+fn report<O: Sink>(alloc: Global, found: Result<Outcome, Failure>, out: &mut O) -> ExitStatus
     ensures { EndsAs found (record { out = O.told out.old; faults = O.faults out.old }) (record { out = O.told out.new; faults = O.faults out.new }) result }
 {
     match found {
-        Ok(answered) => {
-            let meant = exit_status(answered.status);
-            put(alloc, out, answered.text.as_slice(), meant)
+        Ok(Outcome::Answered(answer)) => {
+            let meant = exit_status(answer.status);
+            put(alloc, out, answer.text.as_slice(), meant)
         }
-        Err(Failure::Words) => put(alloc, out, b"refused words\n", ExitStatus::RefusedWords),
-        Err(Failure::Length) => put(alloc, out, b"refused length\n", ExitStatus::RefusedInput),
-        Err(Failure::Line(line)) => put_line_refusal(alloc, out, line),
-        Err(Failure::Unread) => ExitStatus::ShelfFailed,
-        Err(Failure::Memory) => ExitStatus::NoMemory,
+        Ok(Outcome::Printed(text)) => put(alloc, out, text.as_slice(), ExitStatus::Done),
+        Err(failure) => report_failure(alloc, failure, out),
     }
 }
 
-fn put_line_refusal<O: Sink>(alloc: Global, out: &mut O, line: u32) -> ExitStatus
-    ensures { IsPut (record { out = O.told out.old; faults = O.faults out.old }) (record { out = O.told out.new; faults = O.faults out.new }) (line_refusal line) ExitStatus.RefusedInput result }
+fn report_failure<O: Sink>(alloc: Global, failure: Failure, out: &mut O) -> ExitStatus
+    ensures { EndsAs (Err failure) (record { out = O.told out.old; faults = O.faults out.old }) (record { out = O.told out.new; faults = O.faults out.new }) result }
 {
-    match line_refusal(alloc, line) {
+    match failure {
+        Failure::Words => put(alloc, out, b"refused words\n", ExitStatus::RefusedWords),
+        Failure::Length => put(alloc, out, b"refused length\n", ExitStatus::RefusedInput),
+        Failure::Mps { line, kind } => put_mps_refusal(alloc, out, line, kind),
+        Failure::Model(error) => put_model_refusal(alloc, out, error),
+        Failure::Unread => ExitStatus::ShelfFailed,
+        Failure::Memory => ExitStatus::NoMemory,
+    }
+}
+
+fn put_mps_refusal<O: Sink>(alloc: Global, out: &mut O, line: u32, kind: MpsKind) -> ExitStatus
+    ensures { IsPut (record { out = O.told out.old; faults = O.faults out.old }) (record { out = O.told out.new; faults = O.faults out.new }) (mps_refusal_of line (kind_number kind)) ExitStatus.RefusedInput result }
+{
+    match mps_refusal(alloc, line, kind) {
         Ok(text) => put(alloc, out, text.as_slice(), ExitStatus::RefusedInput),
         Err(OutOfMemory) => ExitStatus::NoMemory,
     }
 }
 
-fn line_refusal(alloc: Global, line: u32) -> Result<Text, OutOfMemory>
-    ensures { IfOk result (λ text. text ≡ line_refusal line) }
+fn put_model_refusal<O: Sink>(alloc: Global, out: &mut O, error: AdmitError) -> ExitStatus
+    ensures { IsPut (record { out = O.told out.old; faults = O.faults out.old }) (record { out = O.told out.new; faults = O.faults out.new }) (model_refusal_of (kind_of error) (index_of error)) ExitStatus.RefusedInput result }
 {
-    let mut text = Text::new(alloc);
-    text.extend(b"refused plain line ")?;
-    text.extend(Buffer::new().format(line).as_bytes())?;
-    text.push(b'\n')?;
-    Ok(text)
+    match model_refusal(alloc, error) {
+        Ok(text) => put(alloc, out, text.as_slice(), ExitStatus::RefusedInput),
+        Err(OutOfMemory) => ExitStatus::NoMemory,
+    }
 }
 
 /// Puts a text, and says how the run ends then: with `meant` where it succeeds.

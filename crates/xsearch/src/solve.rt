@@ -1,77 +1,108 @@
-ghost use Rattle.std.specs.Prelude.{◌≡◌, ◌≤◌, ◌^◌, length, map, IfOk};
-ghost use Rattle.std.specs.String.{string_bytes};
-ghost use Rattle.xsearch.specs.Causes.{IsAnswer, IsCaused, IsCausedBy, IsFoundIn};
+ghost use Rattle.std.specs.Prelude.{◌≡◌, ◌≤◌, ◌^◌, IfOk};
+ghost use Rattle.mps_read.specs.MpsModels.{IsMpsModel};
+ghost use Rattle.width_admit.specs.Admission.{IsCause};
+ghost use Rattle.xsearch.specs.Causes.{IsAnswer, IsCausedBy, IsSolved};
+ghost use Rattle.xsearch.specs.ModelFiles.{IsOfFile, IsSmall};
+ghost use Rattle.xsearch.specs.Runs.{Runs};
+ghost use Rattle.xsearch_words.specs.declared.job.Job.TheVariants.{Solve};
 
 use crate::answer::answer_text;
-use crate::failure::{Answered, Failure};
-use crate::words::{Request, asked};
+use crate::model_file::read_model;
+use crate::outcome::{Answer, Failure, Outcome};
+use crate::report::finish;
 use ip_core::{Model, OutOfMemory, Text};
-use plain_read::{PlainError, read_plain};
+use mps_read::MpsModel;
 use plain_search::{final_status, search};
 use std::alloc::Global;
-use xsearch_words::{Shelf, ShelfError};
+use width_admit::{AdmitError, admit};
+use xsearch_words::{Shelf, Sink, SolveJob};
 
-/// The most bytes of a model file: 16 MiB.
-pub const MAX_MODEL_FILE: u64 = 16_777_216;
-
-/// Finds what the words ask for: the answer, or why there is none.
-pub fn solve<S: Shelf>(alloc: Global, words: &[String], shelf: &mut S) -> Result<Answered, Failure>
-    ensures cause { IsCaused (map string_bytes words.now) (record { files = S.told shelf.old; faults = S.faults shelf.old; last = S.last_fault shelf.old }) (record { files = S.told shelf.new; faults = S.faults shelf.new; last = S.last_fault shelf.new }) result }
-    ensures files { S.told shelf.new ≡ S.told shelf.old }
+/// Does the command `solve`, and answers the exit status: reads the model of a file, admits it, searches it and puts the
+/// answer, or the one refusal line. Columns without a high get `default_upper`, where it is given.
+///
+/// The status is 0 where the answer is optimal or infeasible, 3 where the search met its limit on counted work, 5 where the
+/// file is too long, a line of it is refused or its model isn't admitted, 6 where the read failed, 7 where the put failed,
+/// and 8 where memory could not be had.
+pub fn solve_alone<S: Shelf, O: Sink>(
+    alloc: Global,
+    job: &SolveJob,
+    shelf: &mut S,
+    out: &mut O,
+) -> u8
+    requires { job.now.work ≤ 10 ^ 12 }
+    ensures { Runs
+        (IsCausedBy (Solve job.now) (record { files = S.told shelf.old; faults = S.faults shelf.old; last = S.last_fault shelf.old }) (record { files = S.told shelf.new; faults = S.faults shelf.new; last = S.last_fault shelf.new }))
+        (record { files = S.told shelf.old; faults = S.faults shelf.old; last = S.last_fault shelf.old })
+        (record { files = S.told shelf.new; faults = S.faults shelf.new; last = S.last_fault shelf.new })
+        (record { out = O.told out.old; faults = O.faults out.old })
+        (record { out = O.told out.new; faults = O.faults out.new })
+        result }
 {
-    match asked(words) {
-        None => Err(Failure::Words),
-        Some(request) => solve_file(alloc, request.name, request.work, shelf),
-    }
+    let found = solve_file(alloc, &job.model, job.work, job.default_upper, shelf);
+    finish(alloc, found, out)
 }
 
+/// Solves the model of a file: its answer, or why there is none.
 fn solve_file<S: Shelf>(
     alloc: Global,
-    name: &[u8],
+    model: &Text,
     work: u64,
+    default_upper: Option<u32>,
     shelf: &mut S,
-) -> Result<Answered, Failure>
+) -> Result<Outcome, Failure>
     requires { work ≤ 10 ^ 12 }
-    ensures cause { IsCausedBy (record { files = S.told shelf.old; faults = S.faults shelf.old; last = S.last_fault shelf.old }) (record { files = S.told shelf.new; faults = S.faults shelf.new; last = S.last_fault shelf.new }) name.now work result }
+    ensures cause { IsOfFile (IsSolved work default_upper) (record { files = S.told shelf.old; faults = S.faults shelf.old; last = S.last_fault shelf.old }) (record { files = S.told shelf.new; faults = S.faults shelf.new; last = S.last_fault shelf.new }) model.now result }
     ensures files { S.told shelf.new ≡ S.told shelf.old }
 {
-    let Ok(name) = text_of(alloc, name) else {
-        return Err(Failure::Memory);
-    };
-    match shelf.read(alloc, &name, MAX_MODEL_FILE) {
-        Ok(bytes) => solve_bytes(alloc, bytes.as_slice(), work),
-        Err(ShelfError::Failed) => Err(Failure::Unread),
-        Err(ShelfError::TooLong) => Err(Failure::Length),
-        Err(ShelfError::Memory) => Err(Failure::Memory),
+    match read_model(alloc, model, shelf) {
+        Ok(mps) => solve_model(alloc, &mps, work, default_upper),
+        Err(failure) => Err(failure),
     }
 }
 
-fn text_of(alloc: Global, bytes: &[u8]) -> Result<Text, OutOfMemory>
-    ensures { IfOk result (λ text. text ≡ bytes.now) }
+fn solve_model(
+    alloc: Global,
+    mps: &MpsModel,
+    work: u64,
+    default_upper: Option<u32>,
+) -> Result<Outcome, Failure>
+    requires kept { IsMpsModel mps.now }
+    requires small { IsSmall mps.now }
+    requires work { work ≤ 10 ^ 12 }
+    ensures { IsSolved work default_upper mps.now result }
 {
-    Ok(Text::of(Vec::from_slice(alloc, bytes)?))
+    match admit(alloc, mps, default_upper) {
+        Ok(model) => match answer(alloc, &model, work) {
+            Ok(answer) => Ok(Outcome::Answered(answer)),
+            Err(OutOfMemory) => Err(Failure::Memory),
+        },
+        Err(error) => refuse(mps, work, default_upper, error),
+    }
 }
 
-fn solve_bytes(alloc: Global, bytes: &[u8], work: u64) -> Result<Answered, Failure>
-    requires length { length bytes.now ≤ MAX_MODEL_FILE }
-    requires work { work ≤ 10 ^ 12 }
-    ensures { IsFoundIn bytes.now work result }
+/// What becomes of a model that isn't admitted.
+fn refuse(
+    mps: &MpsModel,
+    work: u64,
+    default_upper: Option<u32>,
+    error: AdmitError,
+) -> Result<Outcome, Failure>
+    requires { IsCause mps.now default_upper error }
+    ensures { IsSolved work default_upper mps.now result }
 {
-    match read_plain(alloc, bytes) {
-        Ok(model) => answer(alloc, &model, work).map_err(|_| Failure::Memory),
-        Err(PlainError::Refused { line }) => Err(Failure::Line(line)),
-        Err(PlainError::Memory) => Err(Failure::Memory),
+    match error {
+        AdmitError::Memory => Err(Failure::Memory),
+        _ => Err(Failure::Model(error)),
     }
 }
 
 /// Searches the model within the limit on counted work, and prints what was found.
-fn answer(alloc: Global, model: &Model, work: u64) -> Result<Answered, OutOfMemory>
-    requires whole { model.now.decimals ≡ 0 }
-    requires work { work ≤ 10 ^ 12 }
-    ensures { IfOk result (λ answered. IsAnswer model.now work answered) }
+fn answer(alloc: Global, model: &Model, work: u64) -> Result<Answer, OutOfMemory>
+    requires { work ≤ 10 ^ 12 }
+    ensures { IfOk result (λ answer. IsAnswer model.now work answer) }
 {
     let view = search(alloc, model, work)?;
     let status = final_status(&view);
     let text = answer_text(alloc, model, status, &view.best)?;
-    Ok(Answered { status, text })
+    Ok(Answer { status, text })
 }

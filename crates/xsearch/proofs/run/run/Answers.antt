@@ -1,0 +1,6 @@
+use Rattle.xsearch.specs.Causes.{Asked}
+use Rattle.xsearch.proofs.Running.{weaker}
+use Rattle.xsearch.proofs.run.run.Goals as goal
+
+pub returns-in-Ok : goal.returns-in-Ok
+returns-in-Ok g c = weaker _ _ _ _ _ _ _ (λ found cause. Asked c.in-Ok.job c.in-Ok.ensures.answer cause) c.run_job.ensures

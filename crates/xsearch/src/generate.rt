@@ -1,0 +1,35 @@
+ghost use Rattle.std.specs.Prelude.{◌≡◌};
+ghost use Rattle.sample_model.specs.Samples.{generated};
+ghost use Rattle.xsearch.specs.Causes.{IsPrinted};
+ghost use Rattle.xsearch.specs.Runs.{Ends};
+
+use crate::outcome::{Failure, Outcome};
+use crate::report::finish;
+use crate::show::show_model;
+use ip_core::OutOfMemory;
+use sample_model::generate;
+use std::alloc::Global;
+use xsearch_words::Sink;
+
+/// Does the command `gen`, and answers the exit status: puts the canonical text of the sample model of a number.
+///
+/// The status is 0 where the text went out, 7 where the put failed, and 8 where memory could not be had.
+pub fn gen_command<O: Sink>(alloc: Global, number: u64, out: &mut O) -> u8
+    ensures { Ends
+        (IsPrinted (generated number))
+        (record { out = O.told out.old; faults = O.faults out.old })
+        (record { out = O.told out.new; faults = O.faults out.new })
+        result }
+{
+    let found = show_sample(alloc, number);
+    finish(alloc, found, out)
+}
+
+fn show_sample(alloc: Global, number: u64) -> Result<Outcome, Failure>
+    ensures { IsPrinted (generated number) result }
+{
+    match generate(alloc, number) {
+        Ok(mps) => show_model(alloc, &mps),
+        Err(OutOfMemory) => Err(Failure::Memory),
+    }
+}

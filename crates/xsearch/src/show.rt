@@ -1,0 +1,59 @@
+ghost use Rattle.std.specs.Prelude.{◌≡◌};
+ghost use Rattle.mps_read.specs.MpsModels.{IsMpsModel};
+ghost use Rattle.xsearch.specs.Causes.{IsCausedBy, IsPrinted};
+ghost use Rattle.xsearch.specs.ModelFiles.{IsOfFile};
+ghost use Rattle.xsearch.specs.Runs.{Runs};
+ghost use Rattle.xsearch_words.specs.declared.job.Job.TheVariants.{Show};
+
+use crate::model_file::read_model;
+use crate::outcome::{Failure, Outcome};
+use crate::report::finish;
+use ip_core::{OutOfMemory, Text};
+use mps_read::{MpsModel, print};
+use std::alloc::Global;
+use xsearch_words::{Shelf, Sink};
+
+/// Does the command `show`, and answers the exit status: reads the model of a file and puts its canonical text, or the one
+/// refusal line. The model needn't be one that is admitted.
+///
+/// The status is 0 where the text went out, 5 where the file is too long or a line of it is refused, 6 where the read
+/// failed, 7 where the put failed, and 8 where memory could not be had.
+pub fn show_command<S: Shelf, O: Sink>(
+    alloc: Global,
+    model: &Text,
+    shelf: &mut S,
+    out: &mut O,
+) -> u8
+    ensures { Runs
+        (IsCausedBy (Show model.now) (record { files = S.told shelf.old; faults = S.faults shelf.old; last = S.last_fault shelf.old }) (record { files = S.told shelf.new; faults = S.faults shelf.new; last = S.last_fault shelf.new }))
+        (record { files = S.told shelf.old; faults = S.faults shelf.old; last = S.last_fault shelf.old })
+        (record { files = S.told shelf.new; faults = S.faults shelf.new; last = S.last_fault shelf.new })
+        (record { out = O.told out.old; faults = O.faults out.old })
+        (record { out = O.told out.new; faults = O.faults out.new })
+        result }
+{
+    let found = show_file(alloc, model, shelf);
+    finish(alloc, found, out)
+}
+
+/// Prints the model of a file, which isn't admitted: its canonical text, or why there is none.
+fn show_file<S: Shelf>(alloc: Global, model: &Text, shelf: &mut S) -> Result<Outcome, Failure>
+    ensures cause { IsOfFile IsPrinted (record { files = S.told shelf.old; faults = S.faults shelf.old; last = S.last_fault shelf.old }) (record { files = S.told shelf.new; faults = S.faults shelf.new; last = S.last_fault shelf.new }) model.now result }
+    ensures files { S.told shelf.new ≡ S.told shelf.old }
+{
+    match read_model(alloc, model, shelf) {
+        Ok(mps) => show_model(alloc, &mps),
+        Err(failure) => Err(failure),
+    }
+}
+
+/// Prints a model: its canonical text, or that there is no memory.
+pub fn show_model(alloc: Global, mps: &MpsModel) -> Result<Outcome, Failure>
+    requires { IsMpsModel mps.now }
+    ensures { IsPrinted mps.now result }
+{
+    match print(alloc, mps) {
+        Ok(text) => Ok(Outcome::Printed(text)),
+        Err(OutOfMemory) => Err(Failure::Memory),
+    }
+}
