@@ -2,7 +2,7 @@
 use Rattle.std.proofs.Common.{◌≡◌, Bool, true, false, [], ◌∷◌, pos, negsuc, codes, Some, None, refl}
 use Rattle.std.specs.Fmt.{digits}
 use Rattle.ip_core.specs.declared.model.ModelParts.{ModelParts}
-use Rattle.plain_search.specs.declared.answer.Status.TheVariants.{Optimal, Infeasible, WorkLimit}
+use Rattle.plain_tasks.specs.declared.answer.Status.TheVariants.{Optimal, Infeasible, StoreLimit, WorkLimit}
 use Rattle.xsearch.specs.Answer.{answer_text, objective_line}
 use Rattle.xsearch.specs.Refusals.{mps_refusal, model_refusal}
 
@@ -46,3 +46,11 @@ unended = refl
 unbounded : model_refusal 3 0 ≡ codes "refused model kind 3 index 0\n"
 unfolding digits
 unbounded = refl
+
+-- a store that is full, with a point and without
+stored : answer_text (packing false) StoreLimit (Some (record { value = negsuc 524; point = pos 1 ∷ pos 2 ∷ pos 0 ∷ [] })) ≡ codes "status storelimit\nobjective -5.25\nBOX = 1\nCAN = 2\nLID = 0\n"
+unfolding digits
+stored = refl
+
+unstored : answer_text (packing false) StoreLimit None ≡ codes "status storelimit\nobjective none\n"
+unstored = refl

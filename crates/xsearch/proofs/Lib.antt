@@ -2,3 +2,4 @@ pub mod Examples
 pub mod Refused
 pub mod Running
 pub mod SmallModels
+pub mod TrueAnswers

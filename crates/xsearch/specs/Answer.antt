@@ -2,9 +2,9 @@ use Rattle.std.specs.Prelude.{ℕ, if◌then◌else◌, List, [], ◌∷◌, ◌
 use Rattle.std.specs.Fmt.{signed_decimal}
 use Rattle.ip_core.specs.Texts.{decimal_text}
 use Rattle.ip_core.specs.declared.model.ModelParts.{ModelParts}
-use Rattle.plain_search.specs.declared.answer.Status.{Status}
-use Rattle.plain_search.specs.declared.answer.Status.TheVariants.{Optimal, Infeasible, WorkLimit}
-use Rattle.plain_search.specs.declared.view.Best.{Best}
+use Rattle.plain_tasks.specs.declared.answer.Status.{Status}
+use Rattle.plain_tasks.specs.declared.answer.Status.TheVariants.{Optimal, Infeasible, StoreLimit, WorkLimit}
+use Rattle.plain_tasks.specs.declared.view.Best.{Best}
 
 -- the objective of a value: with the constant, and negated where the model maximises
 abbrev pub objective_of : ModelParts → ℤ → ℤ
@@ -33,6 +33,7 @@ point_text m (Some best) = objective_line m best.value ++ column_lines m.cols be
 abbrev pub answer_text : ModelParts → Status → Option Best → List ℕ
 answer_text m Optimal best = codes "status optimal\n" ++ point_text m best
 answer_text m Infeasible best = codes "status infeasible\n"
+answer_text m StoreLimit best = codes "status storelimit\n" ++ point_text m best
 answer_text m WorkLimit best = codes "status worklimit\n" ++ point_text m best
 
 -- a point has a value for each column

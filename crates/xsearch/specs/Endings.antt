@@ -5,20 +5,21 @@ use Rattle.xsearch_words.specs.Faults.{HasRisen}
 use Rattle.xsearch_words.specs.Sink.{GrowsBy, GrowsByFront}
 use Rattle.xsearch.specs.Refusals.{words_refusal, length_refusal, mps_refusal, model_refusal}
 use Rattle.xsearch.specs.Shelves.{SinkState}
-use Rattle.plain_search.specs.declared.answer.Status.{Status}
-use Rattle.plain_search.specs.declared.answer.Status.TheVariants.{Optimal, Infeasible, WorkLimit as SearchLimit}
+use Rattle.plain_tasks.specs.declared.answer.Status.{Status}
+use Rattle.plain_tasks.specs.declared.answer.Status.TheVariants as search
 use Rattle.xsearch.specs.declared.outcome.Outcome.{Outcome}
 use Rattle.xsearch.specs.declared.outcome.Outcome.TheVariants.{Answered, Printed}
 use Rattle.xsearch.specs.declared.outcome.Failure.{Failure}
 use Rattle.xsearch.specs.declared.outcome.Failure.TheVariants.{Words, Length, Mps, Model, Unread, Memory}
 use Rattle.xsearch.specs.declared.status.ExitStatus.{ExitStatus}
-use Rattle.xsearch.specs.declared.status.ExitStatus.TheVariants.{Done, WorkLimit, RefusedWords, RefusedInput, ShelfFailed, SinkFailed, NoMemory}
+use Rattle.xsearch.specs.declared.status.ExitStatus.TheVariants.{Done, WorkLimit, StoreLimit, RefusedWords, RefusedInput, ShelfFailed, SinkFailed, NoMemory}
 
 -- the number of a status
 abbrev pub code_of : ExitStatus → ℕ
 code_of Done = 0
 code_of RefusedWords = 2
 code_of WorkLimit = 3
+code_of StoreLimit = 4
 code_of RefusedInput = 5
 code_of ShelfFailed = 6
 code_of SinkFailed = 7
@@ -36,11 +37,12 @@ pub record IsSilent (old new : SinkState) (meant status : ExitStatus) : Type 0 w
   pub exit : status ≡ meant
   pub nothing : new.out ≡ old.out
 
--- an answer ends a run with status 0, and with 3 where the search met its limit
+-- an answer ends a run with status 0, and where a limit ended the search with 3 or 4: that of work or that of the store
 abbrev pub exit_of : Status → ExitStatus
-exit_of Optimal = Done
-exit_of Infeasible = Done
-exit_of SearchLimit = WorkLimit
+exit_of search.Optimal = Done
+exit_of search.Infeasible = Done
+exit_of search.StoreLimit = StoreLimit
+exit_of search.WorkLimit = WorkLimit
 
 -- how a run ends, by what was found
 abbrev pub EndsAs : Result Outcome Failure → SinkState → SinkState → ExitStatus → Type 0

@@ -1,7 +1,9 @@
 pub mod Answer
 pub mod Causes
 pub mod Endings
+pub mod FileAnswers
 pub mod ModelFiles
 pub mod Refusals
 pub mod Runs
+pub mod Searches
 pub mod Shelves

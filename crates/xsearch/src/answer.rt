@@ -3,29 +3,28 @@ ghost use Rattle.xsearch.specs.Answer.{HasOneEach, answer_text as answer_text_of
 
 use ip_core::{Model, Name, OutOfMemory, Text, decimal};
 use itoa::Buffer;
-use plain_search::{Best, Status};
+use plain_tasks::{Answer, Best, Status};
 use std::alloc::Global;
 
 /// The text of an answer: its status, and unless no point is feasible the point and its objective.
-pub fn answer_text(
-    alloc: Global,
-    model: &Model,
-    status: Status,
-    best: &Option<Best>,
-) -> Result<Text, OutOfMemory>
-    requires { HasOneEach model.now best.now }
-    ensures { IfOk result (λ text. text ≡ answer_text_of model.now status best.now) }
+pub fn answer_text(alloc: Global, model: &Model, answer: &Answer) -> Result<Text, OutOfMemory>
+    requires { HasOneEach model.now answer.now.best }
+    ensures { IfOk result (λ text. text ≡ answer_text_of model.now answer.now.status answer.now.best) }
 {
     let mut text = Text::new(alloc);
-    match status {
+    match answer.status {
         Status::Optimal => {
             text.extend(b"status optimal\n")?;
-            append_point(alloc, &mut text, model, best)?;
+            append_point(alloc, &mut text, model, &answer.best)?;
         }
         Status::Infeasible => text.extend(b"status infeasible\n")?,
+        Status::StoreLimit => {
+            text.extend(b"status storelimit\n")?;
+            append_point(alloc, &mut text, model, &answer.best)?;
+        }
         Status::WorkLimit => {
             text.extend(b"status worklimit\n")?;
-            append_point(alloc, &mut text, model, best)?;
+            append_point(alloc, &mut text, model, &answer.best)?;
         }
     }
     Ok(text)

@@ -1,12 +1,12 @@
 use ip_core::Text;
 use mps_read::MpsKind;
-use plain_search::Status;
+use plain_tasks::Status;
 use thiserror::Error;
 use width_admit::AdmitError;
 
-/// The answer of a search: how it ended, and the text.
+/// The answer of a search as it is printed: how the search ended, and the text.
 #[derive(Debug, Drop)]
-pub struct Answer {
+pub struct PrintedAnswer {
     pub status: Status,
     pub text: Text,
 }
@@ -15,7 +15,7 @@ pub struct Answer {
 #[derive(Debug, Drop)]
 pub enum Outcome {
     /// The answer of a search.
-    Answered(Answer),
+    Answered(PrintedAnswer),
     /// A text that no search is needed for.
     Printed(Text),
 }

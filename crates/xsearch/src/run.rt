@@ -14,13 +14,14 @@ use xsearch_words::{Job, JobError, Shelf, Sink, settings};
 
 /// Does the one command that the words ask for, and answers the exit status.
 ///
-/// `solve MODEL` reads the model file MODEL from the shelf, admits it, searches it and puts its answer on the sink;
-/// `--work=N` sets the limit on counted work, and `--default-upper=N` the upper bound of columns that have none. `show MODEL`
-/// puts the canonical text of the file's model, and `gen NUMBER` that of a sample model. The status is 0 where an optimal or
-/// infeasible answer or a canonical text went out, 3 where the search met its limit, 2 where the words ask nothing, 5 where
-/// the file is too long, a line of it isn't allowed or its model isn't admitted, 6 where the read failed, 7 where the put
-/// failed, and 8 where memory could not be had. A text goes out by one put. After 6 and 8 nothing has gone out, and after 7
-/// a front of the text has. No file is changed.
+/// `solve MODEL` and `alone MODEL` read the model file MODEL from the shelf, admit it, search it and put its answer on the
+/// sink; `--tasks=N` sets the number of slots that search, `--work=N` and `--store=N` their limits, and `--default-upper=N`
+/// the upper bound of columns that have none. `show MODEL` puts the canonical text of the file's model, and `gen NUMBER` that
+/// of a sample model. The status is 0 where an optimal or infeasible answer or a canonical text went out, 2 where the words
+/// ask nothing, 3 and 4 where the limit on work or the store ended the search, 5 where the file is too long, a line of it
+/// isn't allowed or its model isn't admitted, 6 where the read failed, 7 where the put failed, and 8 where memory could not
+/// be had. A text goes out by one put. After 6 and 8 nothing has gone out, and after 7 a front of the text has. No file is
+/// changed.
 pub fn run<S: Shelf, O: Sink>(alloc: Global, words: &[String], shelf: &mut S, out: &mut O) -> u8
     ensures { Runs
         (IsCaused (map string_bytes words.now) (record { files = S.told shelf.old; faults = S.faults shelf.old; last = S.last_fault shelf.old }) (record { files = S.told shelf.new; faults = S.faults shelf.new; last = S.last_fault shelf.new }))
@@ -49,6 +50,7 @@ fn run_job<S: Shelf, O: Sink>(alloc: Global, job: &Job, shelf: &mut S, out: &mut
 {
     match job {
         Job::Solve(job) => solve_alone(alloc, job, shelf, out),
+        Job::Alone(job) => solve_alone(alloc, job, shelf, out),
         Job::Show(model) => show_command(alloc, model, shelf, out),
         Job::Gen(number) => gen_command(alloc, *number, out),
     }

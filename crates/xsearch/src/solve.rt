@@ -1,44 +1,49 @@
-ghost use Rattle.std.specs.Prelude.{◌≡◌, ◌≤◌, ◌^◌, IfOk};
+ghost use Rattle.std.specs.Prelude.{◌≡◌, IfOk};
+ghost use Rattle.ip_core.specs.declared.model.ModelParts.{ModelParts};
 ghost use Rattle.mps_read.specs.MpsModels.{IsMpsModel};
+ghost use Rattle.stamp_machine.specs.Limits.{AreLimits};
 ghost use Rattle.width_admit.specs.Admission.{IsCause};
-ghost use Rattle.xsearch.specs.Causes.{IsAnswer, IsCausedBy, IsSolved};
+ghost use Rattle.xsearch.specs.Causes.{IsAnswer, IsSolved, IsSolvedFile};
 ghost use Rattle.xsearch.specs.ModelFiles.{IsOfFile, IsSmall};
 ghost use Rattle.xsearch.specs.Runs.{Runs};
-ghost use Rattle.xsearch_words.specs.declared.job.Job.TheVariants.{Solve};
+ghost use Rattle.xsearch.specs.Searches.{limits_of as limits_of_tune};
+ghost use Rattle.xsearch_words.specs.Tunes.{IsTune};
 
 use crate::answer::answer_text;
 use crate::model_file::read_model;
-use crate::outcome::{Answer, Failure, Outcome};
+use crate::outcome::{Failure, Outcome, PrintedAnswer};
 use crate::report::finish;
 use ip_core::{Model, OutOfMemory, Text};
 use mps_read::MpsModel;
-use plain_search::{final_status, search};
+use plain_tasks::{PlainSearch, answer_of, answers_are_true, histories_are_read, limits_are_met};
+use stamp_machine::{Limits, run_alone};
 use std::alloc::Global;
 use width_admit::{AdmitError, admit};
-use xsearch_words::{Shelf, Sink, SolveJob};
+use xsearch_words::{Shelf, Sink, SolveJob, Tune};
 
-/// Does the command `solve`, and answers the exit status: reads the model of a file, admits it, searches it and puts the
-/// answer, or the one refusal line. Columns without a high get `default_upper`, where it is given.
+/// Does the commands `solve` and `alone`, and answers the exit status: reads the model of a file, admits it, searches it by
+/// as many slots as there are tasks and puts the answer, or the one refusal line. Columns without a high get `default_upper`,
+/// where it is given.
 ///
-/// The status is 0 where the answer is optimal or infeasible, 3 where the search met its limit on counted work, 5 where the
-/// file is too long, a line of it is refused or its model isn't admitted, 6 where the read failed, 7 where the put failed,
-/// and 8 where memory could not be had.
+/// The status is 0 where the answer is optimal or infeasible, 3 where the limit on counted work ended the search and 4 where
+/// the store of a slot did, 5 where the file is too long, a line of it is refused or its model isn't admitted, 6 where the
+/// read failed, 7 where the put failed, and 8 where memory could not be had.
 pub fn solve_alone<S: Shelf, O: Sink>(
     alloc: Global,
     job: &SolveJob,
     shelf: &mut S,
     out: &mut O,
 ) -> u8
-    requires { job.now.work ≤ 10 ^ 12 }
+    requires { IsTune job.now.tune }
     ensures { Runs
-        (IsCausedBy (Solve job.now) (record { files = S.told shelf.old; faults = S.faults shelf.old; last = S.last_fault shelf.old }) (record { files = S.told shelf.new; faults = S.faults shelf.new; last = S.last_fault shelf.new }))
+        (IsSolvedFile job.now (record { files = S.told shelf.old; faults = S.faults shelf.old; last = S.last_fault shelf.old }) (record { files = S.told shelf.new; faults = S.faults shelf.new; last = S.last_fault shelf.new }))
         (record { files = S.told shelf.old; faults = S.faults shelf.old; last = S.last_fault shelf.old })
         (record { files = S.told shelf.new; faults = S.faults shelf.new; last = S.last_fault shelf.new })
         (record { out = O.told out.old; faults = O.faults out.old })
         (record { out = O.told out.new; faults = O.faults out.new })
         result }
 {
-    let found = solve_file(alloc, &job.model, job.work, job.default_upper, shelf);
+    let found = solve_file(alloc, &job.model, &job.tune, job.default_upper, shelf);
     finish(alloc, found, out)
 }
 
@@ -46,16 +51,16 @@ pub fn solve_alone<S: Shelf, O: Sink>(
 fn solve_file<S: Shelf>(
     alloc: Global,
     model: &Text,
-    work: u64,
+    tune: &Tune,
     default_upper: Option<u32>,
     shelf: &mut S,
 ) -> Result<Outcome, Failure>
-    requires { work ≤ 10 ^ 12 }
-    ensures cause { IsOfFile (IsSolved work default_upper) (record { files = S.told shelf.old; faults = S.faults shelf.old; last = S.last_fault shelf.old }) (record { files = S.told shelf.new; faults = S.faults shelf.new; last = S.last_fault shelf.new }) model.now result }
+    requires { IsTune tune.now }
+    ensures cause { IsOfFile (IsSolved tune.now default_upper) (record { files = S.told shelf.old; faults = S.faults shelf.old; last = S.last_fault shelf.old }) (record { files = S.told shelf.new; faults = S.faults shelf.new; last = S.last_fault shelf.new }) model.now result }
     ensures files { S.told shelf.new ≡ S.told shelf.old }
 {
     match read_model(alloc, model, shelf) {
-        Ok(mps) => solve_model(alloc, &mps, work, default_upper),
+        Ok(mps) => solve_model(alloc, &mps, tune, default_upper),
         Err(failure) => Err(failure),
     }
 }
@@ -63,32 +68,32 @@ fn solve_file<S: Shelf>(
 fn solve_model(
     alloc: Global,
     mps: &MpsModel,
-    work: u64,
+    tune: &Tune,
     default_upper: Option<u32>,
 ) -> Result<Outcome, Failure>
     requires kept { IsMpsModel mps.now }
     requires small { IsSmall mps.now }
-    requires work { work ≤ 10 ^ 12 }
-    ensures { IsSolved work default_upper mps.now result }
+    requires tune { IsTune tune.now }
+    ensures { IsSolved tune.now default_upper mps.now result }
 {
     match admit(alloc, mps, default_upper) {
-        Ok(model) => match answer(alloc, &model, work) {
+        Ok(model) => match answer(alloc, model, tune) {
             Ok(answer) => Ok(Outcome::Answered(answer)),
             Err(OutOfMemory) => Err(Failure::Memory),
         },
-        Err(error) => refuse(mps, work, default_upper, error),
+        Err(error) => refuse(mps, tune, default_upper, error),
     }
 }
 
 /// What becomes of a model that isn't admitted.
 fn refuse(
     mps: &MpsModel,
-    work: u64,
+    tune: &Tune,
     default_upper: Option<u32>,
     error: AdmitError,
 ) -> Result<Outcome, Failure>
     requires { IsCause mps.now default_upper error }
-    ensures { IsSolved work default_upper mps.now result }
+    ensures { IsSolved tune.now default_upper mps.now result }
 {
     match error {
         AdmitError::Memory => Err(Failure::Memory),
@@ -96,13 +101,35 @@ fn refuse(
     }
 }
 
-/// Searches the model within the limit on counted work, and prints what was found.
-fn answer(alloc: Global, model: &Model, work: u64) -> Result<Answer, OutOfMemory>
-    requires { work ≤ 10 ^ 12 }
-    ensures { IfOk result (λ answer. IsAnswer model.now work answer) }
+/// Lets the slots search the model, and prints the answer of their history.
+#[tactic(auto, using(crate::proofs::TrueAnswers::one_each))]
+fn answer(alloc: Global, model: Model, tune: &Tune) -> Result<PrintedAnswer, OutOfMemory>
+    requires { IsTune tune.now }
+    ensures { IfOk result (λ answer. IsAnswer model tune.now answer) }
 {
-    let view = search(alloc, model, work)?;
-    let status = final_status(&view);
-    let text = answer_text(alloc, model, status, &view.best)?;
-    Ok(Answer { status, text })
+    let search = PlainSearch::of(model);
+    let limits = limits_of(tune);
+    let history = run_alone(alloc, &search, &limits)?;
+    histories_are_read(&search, &limits);
+    answers_are_true(&search, &limits);
+    limits_are_met(&search, &limits);
+    let answer = answer_of(alloc, search.model(), &history)?;
+    let text = answer_text(alloc, search.model(), &answer)?;
+    Ok(PrintedAnswer {
+        status: answer.status,
+        text,
+    })
+}
+
+/// A slot for each task, each with the limits that are set.
+fn limits_of(tune: &Tune) -> Limits
+    requires { IsTune tune.now }
+    ensures value { result ≡ limits_of_tune tune.now }
+    ensures ranges { AreLimits result }
+{
+    Limits {
+        slots: tune.tasks,
+        work: tune.work,
+        store: tune.store,
+    }
 }

@@ -1,7 +1,7 @@
 ghost use Rattle.std.specs.Prelude.{◌≡◌};
 ghost use Rattle.xsearch.specs.Endings.{code_of, exit_of};
 
-use plain_search::Status;
+use plain_tasks::Status;
 
 /// How a run ended, for the system.
 #[derive(Clone, Copy, Debug, PartialEq, Eq)]
@@ -9,6 +9,7 @@ pub enum ExitStatus {
     Done = 0,
     RefusedWords = 2,
     WorkLimit = 3,
+    StoreLimit = 4,
     RefusedInput = 5,
     ShelfFailed = 6,
     SinkFailed = 7,
@@ -29,6 +30,7 @@ pub fn exit_status(status: Status) -> ExitStatus
     match status {
         Status::Optimal => ExitStatus::Done,
         Status::Infeasible => ExitStatus::Done,
+        Status::StoreLimit => ExitStatus::StoreLimit,
         Status::WorkLimit => ExitStatus::WorkLimit,
     }
 }

@@ -54,6 +54,31 @@ const UNBOUNDED_SHOWN: &[u8] =
 const PACKING: &[u8] =
     b"* small packing model\r\nNAME          PACK\r\nROWS\r\n N  PROFIT\r\n L  WEIGHT\r\nCOLUMNS\r\n    M1        'MARKER'                 'INTORG'\r\n    BOX       PROFIT         -2.25     WEIGHT             3\r\n    CAN       PROFIT         -1.50     WEIGHT             2\r\n    M2        'MARKER'                 'INTEND'\r\n    LID       PROFIT         -0.40     WEIGHT             1\r\nRHS\r\n    WEIGHT             7\r\nBOUNDS\r\n UP BND       BOX                4\r\n UP BND       CAN                4\r\n BV BND       LID\r\nENDATA\r\n";
 
+/// A van of three goods, with decimals.
+const TRADER: &[u8] =
+    b"NAME TRADER\nOBJSENSE\n MAX\nROWS\n N PROFIT\n L WEIGHT\n L VOLUME\nCOLUMNS\n M1 'MARKER' 'INTORG'\n TEA PROFIT 41.50 WEIGHT 62.5\n TEA VOLUME 0.48\n OIL PROFIT 55.25 WEIGHT 118\n OIL VOLUME 0.31\n WOOL PROFIT 29.75 WEIGHT 21.25\n WOOL VOLUME 0.66\n M2 'MARKER' 'INTEND'\nRHS\n VAN PROFIT 85 WEIGHT 750\n VAN VOLUME 6.5\nBOUNDS\n UP STOCK TEA 9\n UP STOCK OIL 5\n UP STOCK WOOL 8\nENDATA\n";
+
+/// Three lectures in three slots.
+const TIMETABLE: &[u8] =
+    b"NAME TIMETABLE\nROWS\n N DISLIKE\n E A\n E B\n E C\n L SLOT1\n L SLOT2\n L SLOT3\n L AB1\n L AB2\n L AB3\nCOLUMNS\n A1 DISLIKE 1 A 1\n A1 SLOT1 1 AB1 1\n A2 DISLIKE 4 A 1\n A2 SLOT2 1 AB2 1\n A3 DISLIKE 6 A 1\n A3 SLOT3 1 AB3 1\n B1 DISLIKE 2 B 1\n B1 SLOT1 1 AB1 1\n B2 DISLIKE 3 B 1\n B2 SLOT2 1 AB2 1\n B3 DISLIKE 7 B 1\n B3 SLOT3 1 AB3 1\n C1 DISLIKE 2 C 1\n C1 SLOT1 1\n C2 DISLIKE 3 C 1\n C2 SLOT2 1\n C3 DISLIKE 5 C 1\n C3 SLOT3 1\nRHS\n R A 1 B 1\n R C 1 SLOT1 2\n R SLOT2 2 SLOT3 2\n R AB1 1 AB2 1\n R AB3 1\nBOUNDS\n BV X A1\n BV X A2\n BV X A3\n BV X B1\n BV X B2\n BV X B3\n BV X C1\n BV X C2\n BV X C3\nENDATA\n";
+
+/// Four shifts that cover a day.
+const SHIFTS: &[u8] =
+    b"NAME SHIFTS\nROWS\n N PAY\n G NIGHT\n G MORNING\n G NOON\n G EVENING\nCOLUMNS\n EARLY PAY 31.5 NIGHT 1\n EARLY MORNING 1\n DAY PAY 27 MORNING 1\n DAY NOON 1\n LATE PAY 30 NOON 1\n LATE EVENING 1\n OWL PAY 38.5 EVENING 1\n OWL NIGHT 1\nRHS\n NEED NIGHT 3 MORNING 5\n NEED NOON 6 EVENING 4\nRANGES\n SPARE EVENING 2\nBOUNDS\n UI STAFF EARLY 8\n UI STAFF DAY 8\n UI STAFF LATE 8\n UI STAFF OWL 8\nENDATA\n";
+
+/// Four columns and two rows. Every point was tried for its best objective, and so for the next three models.
+const FOUR: &[u8] =
+    b"NAME four\nROWS\n N c\n L a0\n G a1\nCOLUMNS\n p c -6\n p a0 6\n q c -9\n q a0 6\n q a1 5\n r c -1\n r a0 -4\n r a1 3\n s c -2\n s a0 2\n s a1 2\nRHS\n R a0 4\n R a1 11\nBOUNDS\n LI B p 0\n UI B p 5\n LI B q 0\n UI B q 5\n LI B r 0\n UI B r 5\n LI B s 0\n UI B s 5\nENDATA\n";
+
+const FOUR_MAX: &[u8] =
+    b"NAME fourmax\nOBJSENSE\n MAX\nROWS\n N c\n L a0\n G a1\n L a2\nCOLUMNS\n p c -8\n p a0 -5\n q c 7\n q a0 -5\n q a1 5\n q a2 1\n r c -3\n r a0 6\n r a1 3\n r a2 5\n s c 4\n s a1 5\n s a2 5\nRHS\n R a0 12\n R a1 15\n R a2 8\nBOUNDS\n LI B p -3\n UI B p 3\n LI B q -3\n UI B q 3\n LI B r -3\n UI B r 3\n LI B s -3\n UI B s 3\nENDATA\n";
+
+const FIVE: &[u8] =
+    b"NAME five\nROWS\n N c\n G a0\n L a1\n L a2\nCOLUMNS\n p c -6\n p a1 3\n p a2 -4\n q c 5\n q a0 2\n q a2 -4\n r c 8\n r a0 4\n r a1 3\n r a2 1\n s c 1\n s a1 5\n s a2 1\n t c -9\n t a1 -3\n t a2 4\nRHS\n R a0 11\n R a1 3\n R a2 8\nBOUNDS\n LI B p -2\n UI B p 2\n LI B q -2\n UI B q 2\n LI B r -2\n UI B r 2\n LI B s -2\n UI B s 2\n LI B t -2\n UI B t 2\nENDATA\n";
+
+const SIX_MAX: &[u8] =
+    b"NAME sixmax\nOBJSENSE\n MAX\nROWS\n N c\n E a0\n G a1\nCOLUMNS\n p c 7\n p a0 6\n p a1 2\n q c 5\n q a0 4\n q a1 5\n r c -2\n r a0 7\n r a1 5\n s c 3\n s a0 -3\n t c 3\n t a0 1\n t a1 3\n u c 8\n u a0 2\nRHS\n R a0 12\n R a1 14\nBOUNDS\n LI B p 0\n UI B p 2\n LI B q 0\n UI B q 2\n LI B r 0\n UI B r 2\n LI B s 0\n UI B s 2\n LI B t 0\n UI B t 2\n LI B u 0\n UI B u 2\nENDATA\n";
+
 /// Words over a file `m`, the exit status, and what is printed.
 struct Case {
     words: &'static str,
@@ -78,6 +103,19 @@ fn words(alloc: Global, line: &str) -> Result<Vec<String>, OutOfMemory> {
     Ok(words)
 }
 
+/// The exit status of a run over the file `m`, with what it puts out.
+fn run_over(
+    alloc: Global,
+    line: &str,
+    model: &[u8],
+    out: &mut SureSink,
+) -> Result<u8, OutOfMemory> {
+    let mut shelf = SureShelf::new(alloc);
+    shelf.set(text(alloc, b"m")?, List::of(Vec::from_slice(alloc, model)?))?;
+    let words = words(alloc, line)?;
+    Ok(run(alloc, words.as_slice(), &mut shelf, out))
+}
+
 /// Whether a run over the file `m` ends with this status and prints this.
 fn prints(
     alloc: Global,
@@ -86,11 +124,8 @@ fn prints(
     status: u8,
     printed: &[u8],
 ) -> Result<bool, OutOfMemory> {
-    let mut shelf = SureShelf::new(alloc);
-    shelf.set(text(alloc, b"m")?, List::of(Vec::from_slice(alloc, model)?))?;
     let mut out = SureSink::new(alloc);
-    let words = words(alloc, line)?;
-    let code = run(alloc, words.as_slice(), &mut shelf, &mut out);
+    let code = run_over(alloc, line, model, &mut out)?;
     Ok(code == status && out.bytes() == printed)
 }
 
@@ -105,7 +140,7 @@ fn first_failure(alloc: Global, cases: &[Case]) -> Result<Option<usize>, OutOfMe
     Ok(None)
 }
 
-const CASES: [Case; 24] = [
+const CASES: [Case; 25] = [
     Case {
         words: "solve m",
         model: ONE,
@@ -167,31 +202,25 @@ const CASES: [Case; 24] = [
         printed: b"status optimal\nobjective -9\nx = 9\n",
     },
     Case {
-        words: "solve m --default-upper=7",
-        model: THREE,
-        status: 0,
-        printed: b"status optimal\nobjective -13\nx = 2\ny = 0\nz = 1\n",
-    },
-    Case {
-        words: "solve m --work=15",
+        words: "solve m --tasks=1 --work=15",
         model: COVER,
         status: 3,
         printed: b"status worklimit\nobjective 3\nx = 3\n",
     },
     Case {
-        words: "solve m --work=16",
+        words: "solve m --tasks=1 --work=16",
         model: COVER,
         status: 0,
         printed: b"status optimal\nobjective 2\nx = 2\n",
     },
     Case {
-        words: "solve m --work=2",
+        words: "solve m --tasks=1 --work=2",
         model: ONE,
         status: 3,
         printed: b"status worklimit\nobjective none\n",
     },
     Case {
-        words: "solve m --work=3",
+        words: "solve m --tasks=1 --work=3",
         model: ONE,
         status: 0,
         printed: b"status optimal\nobjective 0\nx = 0\n",
@@ -221,12 +250,6 @@ const CASES: [Case; 24] = [
         printed: UNBOUNDED_SHOWN,
     },
     Case {
-        words: "solve m -x",
-        model: ONE,
-        status: 2,
-        printed: b"refused words\n",
-    },
-    Case {
         words: "solve",
         model: ONE,
         status: 2,
@@ -240,6 +263,24 @@ const CASES: [Case; 24] = [
     },
     Case {
         words: "gen m",
+        model: ONE,
+        status: 2,
+        printed: b"refused words\n",
+    },
+    Case {
+        words: "alone m --default-upper=7",
+        model: THREE,
+        status: 0,
+        printed: b"status optimal\nobjective -13\nx = 2\ny = 0\nz = 1\n",
+    },
+    Case {
+        words: "solve m --tasks=65",
+        model: ONE,
+        status: 2,
+        printed: b"refused words\n",
+    },
+    Case {
+        words: "solve m --tasks=64 --store=65537",
         model: ONE,
         status: 2,
         printed: b"refused words\n",
@@ -386,5 +427,181 @@ fn a_missing_file(rt: HostRuntime) -> Result<(), Fail> {
         .last_fault()
         .map(|fault| (fault.write, fault.name.as_slice()));
     assert_eq!(rt; fault, Some((false, b"m".as_slice())));
+    Ok(())
+}
+
+/// Columns of cost 1 in 0 to 1, so many, and no row.
+fn free_columns(alloc: Global, count: u32) -> Result<String, OutOfMemory> {
+    let mut file = String::new(alloc);
+    file.push_str("ROWS\n N c\nCOLUMNS\n M 'MARKER' 'INTORG'\n")?;
+    for j in 0..count {
+        let line = format!(in alloc; " x{j} c 1\n")?;
+        file.push_str(line.as_str())?;
+    }
+    file.push_str("BOUNDS\n")?;
+    for j in 0..count {
+        let line = format!(in alloc; " UP b x{j} 1\n")?;
+        file.push_str(line.as_str())?;
+    }
+    file.push_str("ENDATA\n")?;
+    Ok(file)
+}
+
+/// The answer in which so many columns are 0.
+fn all_zero(alloc: Global, count: u32) -> Result<String, OutOfMemory> {
+    let mut answer = String::new(alloc);
+    answer.push_str("status optimal\nobjective 0\n")?;
+    for j in 0..count {
+        let line = format!(in alloc; "x{j} = 0\n")?;
+        answer.push_str(line.as_str())?;
+    }
+    Ok(answer)
+}
+
+/// Whether the model of so many columns is answered so with a store of 64 words.
+fn is_stored_answer(
+    alloc: Global,
+    count: u32,
+    status: u8,
+    printed: &[u8],
+) -> Result<bool, OutOfMemory> {
+    let file = free_columns(alloc, count)?;
+    let line = "solve m --tasks=1 --store=64";
+    prints(alloc, line, file.as_bytes(), status, printed)
+}
+
+#[test]
+fn a_point_that_fits_the_store(rt: HostRuntime) -> Result<(), Fail> {
+    let alloc = rt.alloc();
+    let answer = all_zero(alloc, 45)?;
+    assert!(rt; is_stored_answer(alloc, 45, 0, answer.as_bytes())?);
+    Ok(())
+}
+
+#[test]
+fn a_point_too_long_for_the_store(rt: HostRuntime) -> Result<(), Fail> {
+    let alloc = rt.alloc();
+    let answer = b"status storelimit\nobjective none\n";
+    assert!(rt; is_stored_answer(alloc, 46, 4, answer)?);
+    Ok(())
+}
+
+/// A model, and how its answer begins with an upper bound of 9 where the file gives none.
+struct Solved {
+    model: &'static [u8],
+    begins: &'static [u8],
+}
+
+const SOLVED: [Solved; 16] = [
+    Solved {
+        model: ONE,
+        begins: b"status optimal\nobjective 0\n",
+    },
+    Solved {
+        model: THREE,
+        begins: b"status optimal\nobjective -13\n",
+    },
+    Solved {
+        model: ODD,
+        begins: b"status infeasible\n",
+    },
+    Solved {
+        model: COVER,
+        begins: b"status optimal\nobjective 2\n",
+    },
+    Solved {
+        model: PAIR,
+        begins: b"status optimal\nobjective 0\n",
+    },
+    Solved {
+        model: RANGE,
+        begins: b"status optimal\nobjective 3\n",
+    },
+    Solved {
+        model: RANGE_MAX,
+        begins: b"status optimal\nobjective 5\n",
+    },
+    Solved {
+        model: PACKING,
+        begins: b"status optimal\nobjective -5.25\n",
+    },
+    Solved {
+        model: UNBOUNDED,
+        begins: b"status optimal\nobjective -9\n",
+    },
+    Solved {
+        model: TRADER,
+        begins: b"status optimal\nobjective 405.25\n",
+    },
+    Solved {
+        model: TIMETABLE,
+        begins: b"status optimal\nobjective 6\n",
+    },
+    Solved {
+        model: SHIFTS,
+        begins: b"status optimal\nobjective 268.5\n",
+    },
+    Solved {
+        model: FOUR,
+        begins: b"status optimal\nobjective -41\n",
+    },
+    Solved {
+        model: FOUR_MAX,
+        begins: b"status optimal\nobjective 66\n",
+    },
+    Solved {
+        model: FIVE,
+        begins: b"status optimal\nobjective -6\n",
+    },
+    Solved {
+        model: SIX_MAX,
+        begins: b"status optimal\nobjective 37\n",
+    },
+];
+
+/// The number of the first model that these words don't solve.
+fn first_unsolved(
+    alloc: Global,
+    line: &str,
+    models: &[Solved],
+) -> Result<Option<usize>, OutOfMemory> {
+    for i in 0..models.len() {
+        let solved = &models[i];
+        let mut out = SureSink::new(alloc);
+        let code = run_over(alloc, line, solved.model, &mut out)?;
+        if code != 0 || !out.bytes().starts_with(solved.begins) {
+            return Ok(Some(i));
+        }
+    }
+    Ok(None)
+}
+
+#[test]
+fn one_objective_with_all_numbers_of_tasks(rt: HostRuntime) -> Result<(), Fail> {
+    let alloc = rt.alloc();
+    assert_eq!(rt;
+        first_unsolved(alloc, "solve m --default-upper=9 --tasks=1", &SOLVED)?,
+        None
+    );
+    assert_eq!(rt;
+        first_unsolved(alloc, "solve m --default-upper=9 --tasks=2", &SOLVED)?,
+        None
+    );
+    assert_eq!(rt;
+        first_unsolved(alloc, "solve m --default-upper=9 --tasks=3", &SOLVED)?,
+        None
+    );
+    assert_eq!(rt;
+        first_unsolved(alloc, "solve m --default-upper=9 --tasks=5", &SOLVED)?,
+        None
+    );
+    assert_eq!(rt;
+        first_unsolved(alloc, "alone m --default-upper=9 --tasks=9", &SOLVED)?,
+        None
+    );
+    assert_eq!(rt;
+        first_unsolved(alloc, "alone m --default-upper=9 --tasks=64", &SOLVED)?,
+        None
+    );
     Ok(())
 }

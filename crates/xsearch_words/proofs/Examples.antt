@@ -2,10 +2,17 @@
 use Rattle.std.proofs.Common.{ℕ, ◌≡◌, List, [], ◌∷◌, Option, Some, None, codes, refl}
 use Rattle.xsearch_words.specs.Jobs.{job}
 use Rattle.xsearch_words.specs.declared.job.Job.{Job}
-use Rattle.xsearch_words.specs.declared.job.Job.TheVariants.{Solve, Show, Gen}
+use Rattle.xsearch_words.specs.declared.job.Job.TheVariants.{Solve, Alone, Show, Gen}
+use Rattle.xsearch_words.specs.declared.job.SolveJob.{SolveJob}
+
+abbrev search : List ℕ → ℕ → ℕ → ℕ → Option ℕ → SolveJob
+search model tasks work store default_upper = record { model = model; tune = record { tasks = tasks; work = work; store = store }; default_upper = default_upper }
 
 abbrev solve : List ℕ → ℕ → Option ℕ → Option Job
-solve model work default_upper = Some (Solve (record { model = model; work = work; default_upper = default_upper }))
+solve model work default_upper = Some (Solve (search model 4 work 1048576 default_upper))
+
+abbrev solve_in : List ℕ → ℕ → ℕ → Option Job
+solve_in model tasks store = Some (Solve (search model tasks 200000000 store None))
 
 plain : job (codes "solve" ∷ codes "m3" ∷ []) ≡ solve (codes "m3") 200000000 None
 plain = refl
@@ -64,8 +71,41 @@ greatest_upper = refl
 too_great_upper : job (codes "solve" ∷ codes "m" ∷ codes "--default-upper=2147483649" ∷ []) ≡ None
 too_great_upper = refl
 
-tasks : job (codes "solve" ∷ codes "m" ∷ codes "--tasks=2" ∷ []) ≡ None
-tasks = refl
+third_of_the_store : job (codes "solve" ∷ codes "m" ∷ codes "--tasks=3" ∷ []) ≡ solve_in (codes "m") 3 1398101
+third_of_the_store = refl
+
+too_many_tasks : job (codes "solve" ∷ codes "m3" ∷ codes "--tasks=65" ∷ []) ≡ None
+too_many_tasks = refl
+
+no_tasks : job (codes "solve" ∷ codes "m3" ∷ codes "--tasks=0" ∷ []) ≡ None
+no_tasks = refl
+
+whole_store : job (codes "solve" ∷ codes "m3" ∷ codes "--tasks=64" ∷ codes "--store=65536" ∷ []) ≡ solve_in (codes "m3") 64 65536
+whole_store = refl
+
+too_great_stores : job (codes "solve" ∷ codes "m3" ∷ codes "--tasks=64" ∷ codes "--store=65537" ∷ []) ≡ None
+too_great_stores = refl
+
+least_store : job (codes "solve" ∷ codes "m3" ∷ codes "--store=64" ∷ []) ≡ solve_in (codes "m3") 4 64
+least_store = refl
+
+too_small_store : job (codes "solve" ∷ codes "m3" ∷ codes "--store=63" ∷ []) ≡ None
+too_small_store = refl
+
+store_of_one_task : job (codes "solve" ∷ codes "m3" ∷ codes "--store=4194304" ∷ codes "--tasks=1" ∷ []) ≡ solve_in (codes "m3") 1 4194304
+store_of_one_task = refl
+
+too_great_store : job (codes "solve" ∷ codes "m3" ∷ codes "--store=4194305" ∷ codes "--tasks=1" ∷ []) ≡ None
+too_great_store = refl
+
+store_of_four_tasks : job (codes "solve" ∷ codes "m3" ∷ codes "--store=1048577" ∷ []) ≡ None
+store_of_four_tasks = refl
+
+alone : job (codes "alone" ∷ codes "m1" ∷ codes "--default-upper=7" ∷ []) ≡ Some (Alone (search (codes "m1") 4 200000000 1048576 (Some 7)))
+alone = refl
+
+key_to_come : job (codes "solve" ∷ codes "m" ∷ codes "--threads=2" ∷ []) ≡ None
+key_to_come = refl
 
 show : job (codes "show" ∷ codes "m" ∷ []) ≡ Some (Show (codes "m"))
 show = refl

@@ -1,14 +1,15 @@
 -- The commands of the program: their words, keys and counts of names.
 use Rattle.std.specs.Prelude.{ℕ, List, [], ◌∷◌, codes, Option, Some, None, if◌then◌else◌, bytes_eq}
 use Rattle.xsearch_words.specs.declared.command.Command.{Command}
-use Rattle.xsearch_words.specs.declared.command.Command.TheVariants.{Solve, Show, Gen}
+use Rattle.xsearch_words.specs.declared.command.Command.TheVariants.{Solve, Alone, Show, Gen}
 use Rattle.xsearch_words.specs.declared.command.Key.{Key}
-use Rattle.xsearch_words.specs.declared.command.Key.TheVariants.{Work, DefaultUpper}
+use Rattle.xsearch_words.specs.declared.command.Key.TheVariants.{Tasks, Work, Store, DefaultUpper}
 
 -- the command of a word
 abbrev pub command_of : List ℕ → Option Command
 command_of word =
     if bytes_eq word (codes "solve") then Some Solve
+    else if bytes_eq word (codes "alone") then Some Alone
     else if bytes_eq word (codes "show") then Some Show
     else if bytes_eq word (codes "gen") then Some Gen
     else None
@@ -16,16 +17,24 @@ command_of word =
 -- how many names the command has
 abbrev pub name_count : Command → ℕ
 name_count Solve = 1
+name_count Alone = 1
 name_count Show = 1
 name_count Gen = 1
 
--- its keys
+-- the keys of a command that searches
+abbrev pub search_keys : List Key
+search_keys = Tasks ∷ Work ∷ Store ∷ DefaultUpper ∷ []
+
+-- the keys of the command
 abbrev pub keys_of : Command → List Key
-keys_of Solve = Work ∷ DefaultUpper ∷ []
+keys_of Solve = search_keys
+keys_of Alone = search_keys
 keys_of Show = []
 keys_of Gen = []
 
 -- what a word that gives the key a value begins with
 abbrev pub front : Key → List ℕ
+front Tasks = codes "--tasks="
 front Work = codes "--work="
+front Store = codes "--store="
 front DefaultUpper = codes "--default-upper="

@@ -2,28 +2,25 @@
 use Rattle.std.specs.Prelude.{ℕ, ◌≡◌, ◌≤◌, ◌-◌, ◌^◌, ⊤, List, [], ◌∷◌, Option, Some, None, option_map, if◌then◌else◌, IfSome, IsTrue}
 use Rattle.xsearch_words.specs.Commands.{command_of}
 use Rattle.xsearch_words.specs.Forms.{has_form, is_name, name_at, value}
-use Rattle.xsearch_words.specs.Numbers.{number_between, number_or, optional_number}
+use Rattle.xsearch_words.specs.Numbers.{number_between, optional_number}
+use Rattle.xsearch_words.specs.Options.{given}
+use Rattle.xsearch_words.specs.Tunes.{IsTune, given_tune}
 use Rattle.xsearch_words.specs.declared.command.Command.{Command}
 use Rattle.xsearch_words.specs.declared.command.Command.TheVariants as command
-use Rattle.xsearch_words.specs.declared.command.Key.TheVariants.{Work, DefaultUpper}
+use Rattle.xsearch_words.specs.declared.command.Key.TheVariants.{DefaultUpper}
 use Rattle.xsearch_words.specs.declared.error.JobError.{JobError}
 use Rattle.xsearch_words.specs.declared.error.JobError.TheVariants.{Words}
 use Rattle.xsearch_words.specs.declared.job.Job.{Job}
-use Rattle.xsearch_words.specs.declared.job.Job.TheVariants.{Solve, Show, Gen}
+use Rattle.xsearch_words.specs.declared.job.Job.TheVariants.{Solve, Alone, Show, Gen}
 use Rattle.xsearch_words.specs.declared.job.SolveJob.{SolveJob}
 
--- what a value leads to, and nothing without one
-abbrev pub given : {A B : Type 0} → Option A → (A → Option B) → Option B
-given None next = None
-given (Some a) next = next a
-
--- `solve MODEL [--work=N] [--default-upper=N]`
+-- `MODEL [--tasks=N] [--work=N] [--store=N] [--default-upper=N]` after `solve` or `alone`
 abbrev pub solve_job : List (List ℕ) → Option SolveJob
 solve_job words =
     given (name_at 0 words) (λ model.
-    given (number_or 200000000 0 (10 ^ 12) (value Work words)) (λ work.
+    given (given_tune words) (λ tune.
     given (optional_number 0 (2 ^ 31) (value DefaultUpper words)) (λ default_upper.
-    Some (record { model = model; work = work; default_upper = default_upper }))))
+    Some (record { model = model; tune = tune; default_upper = default_upper }))))
 
 -- `gen NUMBER`
 abbrev pub gen_number : List (List ℕ) → Option ℕ
@@ -32,6 +29,7 @@ gen_number words = given (name_at 0 words) (number_between 0 (2 ^ 64 - 1))
 -- what words of the command's form ask
 abbrev pub command_job : Command → List (List ℕ) → Option Job
 command_job command.Solve words = option_map Solve (solve_job words)
+command_job command.Alone words = option_map Alone (solve_job words)
 command_job command.Show words = option_map Show (name_at 0 words)
 command_job command.Gen words = option_map Gen (gen_number words)
 
@@ -48,14 +46,15 @@ IsJobOf words asked = job words ≡ Some asked
 abbrev pub IsJobCause : List (List ℕ) → JobError → Type 0
 IsJobCause words error = error ≡ Words → job words ≡ None
 
--- the limits of what `solve` is asked
+-- the limits of what `solve` or `alone` is asked
 pub record IsSolveJob (asked : SolveJob) : Type 0 where
   pub model : IsTrue (is_name asked.model)
-  pub work : asked.work ≤ 10 ^ 12
+  pub tune : IsTune asked.tune
   pub default_upper : IfSome asked.default_upper (λ upper. upper ≤ 2 ^ 31)
 
 -- the limits of what words can ask
 abbrev pub IsJob : Job → Type 0
 IsJob (Solve asked) = IsSolveJob asked
+IsJob (Alone asked) = IsSolveJob asked
 IsJob (Show model) = IsTrue (is_name model)
 IsJob (Gen number) = ⊤

@@ -8,8 +8,10 @@ pub mod Jobs
 pub mod MemoryShelf
 pub mod MemorySink
 pub mod Numbers
+pub mod Options
 pub mod Shelf
 pub mod Sink
 pub mod StdoutSink
 pub mod SureShelf
 pub mod SureSink
+pub mod Tunes

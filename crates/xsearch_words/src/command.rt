@@ -5,6 +5,7 @@ ghost use Rattle.xsearch_words.specs.Commands.{command_of, front as front_of, ke
 #[derive(Clone, Copy, Debug)]
 pub(crate) enum Command {
     Solve,
+    Alone,
     Show,
     Gen,
 }
@@ -12,7 +13,9 @@ pub(crate) enum Command {
 /// A key of the options.
 #[derive(Clone, Copy, Debug)]
 pub(crate) enum Key {
+    Tasks,
     Work,
+    Store,
     DefaultUpper,
 }
 
@@ -23,6 +26,8 @@ impl Command {
     {
         if word == b"solve".as_slice() {
             Some(Command::Solve)
+        } else if word == b"alone".as_slice() {
+            Some(Command::Alone)
         } else if word == b"show".as_slice() {
             Some(Command::Show)
         } else if word == b"gen".as_slice() {
@@ -37,7 +42,7 @@ impl Command {
         ensures { result ≡ name_count self }
     {
         match self {
-            Command::Solve | Command::Show | Command::Gen => 1,
+            Command::Solve | Command::Alone | Command::Show | Command::Gen => 1,
         }
     }
 
@@ -46,7 +51,9 @@ impl Command {
         ensures { result.now ≡ keys_of self }
     {
         match self {
-            Command::Solve => &[Key::Work, Key::DefaultUpper],
+            Command::Solve | Command::Alone => {
+                &[Key::Tasks, Key::Work, Key::Store, Key::DefaultUpper]
+            }
             Command::Show | Command::Gen => &[],
         }
     }
@@ -58,7 +65,9 @@ impl Key {
         ensures { result.now ≡ front_of self }
     {
         match self {
+            Key::Tasks => b"--tasks=",
             Key::Work => b"--work=",
+            Key::Store => b"--store=",
             Key::DefaultUpper => b"--default-upper=",
         }
     }

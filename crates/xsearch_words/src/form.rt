@@ -12,9 +12,7 @@ pub(crate) fn has_form(command: Command, words: &[String]) -> bool
     ensures { result ≡ has_form_of command (map string_bytes words.now) }
 {
     let keys = command.keys();
-    are_known(words, keys)
-        && count_names(words) == command.name_count()
-        && keys.iter().all(|key| is_single(words, *key))
+    are_known(words, keys) && count_names(words) == command.name_count() && are_single(words, keys)
 }
 
 fn are_known(words: &[String], keys: &[Key]) -> bool
@@ -67,6 +65,13 @@ fn count_names(words: &[String]) -> usize
         }
     }
     count
+}
+
+/// Whether each of the keys has at most one value.
+fn are_single(words: &[String], keys: &[Key]) -> bool
+    ensures { result ≡ list_all (is_single_of (map string_bytes words.now)) keys.now }
+{
+    keys.iter().all(|key| is_single(words, *key))
 }
 
 fn is_single(words: &[String], key: Key) -> bool

@@ -3,18 +3,13 @@ ghost use Rattle.std.specs.String.{string_bytes};
 ghost use Rattle.xsearch_words.specs.Jobs.{IsJob, IsJobCause, IsJobOf, IsSolveJob, command_job as command_job_of, gen_number as gen_number_of, solve_job as solve_job_of};
 ghost use Rattle.xsearch_words.specs.Forms.{is_name, name_at as name_at_of};
 
-use crate::JobError;
 use crate::command::{Command, Key};
 use crate::form::{has_form, name_at, value};
-use crate::number::{number_between, number_or, optional_number};
+use crate::number::{number_between, optional_number};
+use crate::tune::given_tune;
+use crate::{JobError, Tune};
 use ip_core::{OutOfMemory, Text};
 use std::alloc::Global;
-
-/// The limit on counted work where the words give none.
-const DEFAULT_WORK: u64 = 200_000_000;
-
-/// The greatest limit on counted work.
-const MAX_WORK: u64 = 1_000_000_000_000;
 
 /// The greatest upper bound of the columns that have none of their own.
 const MAX_UPPER: u32 = 2_147_483_648;
@@ -24,32 +19,39 @@ const MAX_UPPER: u32 = 2_147_483_648;
 pub enum Job {
     /// To solve a model.
     Solve(SolveJob),
+    /// To solve a model on one thread.
+    Alone(SolveJob),
     /// To show the model of the file of this name.
     Show(Text),
     /// To generate the model of this number.
     Gen(u64),
 }
 
-/// What `solve` is asked.
+/// What `solve` or `alone` is asked.
 #[derive(Debug, Drop)]
 pub struct SolveJob {
     /// The name of the model's file.
     pub model: Text,
-    /// The limit on counted work, at most 10^12.
-    pub work: u64,
+    /// How the search is run.
+    pub tune: Tune,
     /// The upper bound of each column that has none of its own, at most 2^31, if one is given.
     pub default_upper: Option<u32>,
 }
 
 /// What the words of the command line ask, without the program's name.
 ///
-/// The first word is the command, which is one of `solve MODEL [--work=N] [--default-upper=N]`,
-/// `show MODEL` and `gen NUMBER`. Each further word is `--key=value` with a key of the command, at
-/// most once each, or a name: a word that isn't empty and doesn't begin with `-`. There are exactly
-/// as many names as the command has, and options may stand before, between and after them. A
-/// number is 1 to 20 decimal digits within its range: N of `--work` is at most 10^12, and without
-/// it 200,000,000; N of `--default-upper` is at most 2^31; NUMBER is at most 2^64 - 1. `Words` is
-/// answered exactly where the words ask nothing by these rules, unless memory runs out.
+/// The first word is the command, which is one of `solve MODEL` and `alone MODEL`, both with the
+/// options `--tasks=N`, `--work=N`, `--store=N` and `--default-upper=N`, `show MODEL` and
+/// `gen NUMBER`. Each further word is `--key=value` with a key of the command, at most once each,
+/// or a name: a word that isn't empty and doesn't begin with `-`. There are exactly as many names
+/// as the command has, and options may stand before, between and after them.
+///
+/// A number is 1 to 20 decimal digits within its range: N of `--tasks` is 1 to 64, and 4 without
+/// it; N of `--work` is at most 10^12, and 200,000,000 without it; N of `--store`, in words for
+/// each task, is 64 to 2^22, and without it 2^22 divided by the number of tasks and rounded down;
+/// tasks times store is at most 2^22; N of `--default-upper` is at most 2^31; NUMBER is at most
+/// 2^64 - 1. `Words` is answered exactly where the words ask nothing by these rules, unless memory
+/// runs out.
 pub fn settings(alloc: Global, words: &[String]) -> Result<Job, JobError>
     ensures answer { MatchResult result (IsJobOf (map string_bytes words.now)) (IsJobCause (map string_bytes words.now)) }
     ensures kept { IfOk result IsJob }
@@ -80,6 +82,7 @@ fn command_job(
 {
     Ok(match command {
         Command::Solve => solve_job(alloc, words)?.map(Job::Solve),
+        Command::Alone => solve_job(alloc, words)?.map(Job::Alone),
         Command::Show => file_name(alloc, words)?.map(Job::Show),
         Command::Gen => gen_number(words).map(Job::Gen),
     })
@@ -92,7 +95,7 @@ fn solve_job(alloc: Global, words: &[String]) -> Result<Option<SolveJob>, OutOfM
     let Some(model) = file_name(alloc, words)? else {
         return Ok(None);
     };
-    let Some(work) = number_or(DEFAULT_WORK, 0, MAX_WORK, value(Key::Work, words)) else {
+    let Some(tune) = given_tune(words) else {
         return Ok(None);
     };
     let Some(default_upper) = optional_number(0, MAX_UPPER, value(Key::DefaultUpper, words)) else {
@@ -100,7 +103,7 @@ fn solve_job(alloc: Global, words: &[String]) -> Result<Option<SolveJob>, OutOfM
     };
     Ok(Some(SolveJob {
         model,
-        work,
+        tune,
         default_upper,
     }))
 }

@@ -21,6 +21,7 @@ mod sink;
 mod stdout_sink;
 mod sure_shelf;
 mod sure_sink;
+mod tune;
 
 pub use error::{JobError, ShelfError, WriteError};
 pub use fault::LastFault;
@@ -33,6 +34,7 @@ pub use sink::Sink;
 pub use stdout_sink::StdoutSink;
 pub use sure_shelf::SureShelf;
 pub use sure_sink::SureSink;
+pub use tune::Tune;
 
 #[cfg(test)]
 mod tests;

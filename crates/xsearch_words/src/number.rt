@@ -10,6 +10,7 @@ const MAX_DIGITS: usize = 20;
 /// The number of 1 to 20 decimal digits, where it is at least `least` and at most `greatest`.
 pub(crate) fn number_between(digits: &[u8], least: u64, greatest: u64) -> Option<u64>
     ensures value { result ≡ number_between least greatest digits.now }
+    ensures least { IfSome result (λ number. least ≤ number) }
     ensures most { IfSome result (λ number. number ≤ greatest) }
 {
     if !is_numeral(digits) {
@@ -64,8 +65,10 @@ pub(crate) fn number_or(
     greatest: u64,
     value: Option<&[u8]>,
 ) -> Option<u64>
-    requires { without ≤ greatest }
+    requires least { least ≤ without }
+    requires most { without ≤ greatest }
     ensures value { result ≡ number_or without least greatest (option_copied value.entry) }
+    ensures least { IfSome result (λ number. least ≤ number) }
     ensures most { IfSome result (λ number. number ≤ greatest) }
 {
     match value {

@@ -135,16 +135,62 @@ fn a_sure_sink_takes_bytes(rt: HostRuntime) -> Result<(), Fail> {
 #[derive(Clone, Copy)]
 enum Want {
     Nothing,
-    Solve(&'static str, u64, Option<u32>),
+    Solve(&'static str, Tune, Option<u32>),
+    Alone(&'static str, Tune, Option<u32>),
     Show(&'static str),
     Gen(u64),
 }
 
 type Case = (&'static [&'static str], Want);
 
-const CASES: [Case; 22] = [
-    (&["solve", "m3"], Want::Solve("m3", 200_000_000, None)),
-    (&["solve", "--work=007", "m3"], Want::Solve("m3", 7, None)),
+const PLAIN: Tune = Tune {
+    tasks: 4,
+    work: 200_000_000,
+    store: 1_048_576,
+};
+
+const LITTLE_WORK: Tune = Tune {
+    tasks: 4,
+    work: 7,
+    store: 1_048_576,
+};
+
+const MOST_WORK: Tune = Tune {
+    tasks: 4,
+    work: 1_000_000_000_000,
+    store: 1_048_576,
+};
+
+const THREE_TASKS: Tune = Tune {
+    tasks: 3,
+    work: 200_000_000,
+    store: 1_398_101,
+};
+
+const ONE_TASK: Tune = Tune {
+    tasks: 1,
+    work: 200_000_000,
+    store: 4_194_304,
+};
+
+const MOST_TASKS: Tune = Tune {
+    tasks: 64,
+    work: 200_000_000,
+    store: 65_536,
+};
+
+const LEAST_STORE: Tune = Tune {
+    tasks: 64,
+    work: 0,
+    store: 64,
+};
+
+const CASES: [Case; 36] = [
+    (&["solve", "m3"], Want::Solve("m3", PLAIN, None)),
+    (
+        &["solve", "--work=007", "m3"],
+        Want::Solve("m3", LITTLE_WORK, None),
+    ),
     (
         &[
             "solve",
@@ -152,13 +198,34 @@ const CASES: [Case; 22] = [
             "m",
             "--work=1000000000000",
         ],
-        Want::Solve("m", 1_000_000_000_000, Some(2_147_483_648)),
+        Want::Solve("m", MOST_WORK, Some(2_147_483_648)),
+    ),
+    (
+        &["solve", "m3", "--tasks=3"],
+        Want::Solve("m3", THREE_TASKS, None),
+    ),
+    (
+        &["solve", "m3", "--tasks=1"],
+        Want::Solve("m3", ONE_TASK, None),
+    ),
+    (
+        &["solve", "m3", "--tasks=64", "--store=65536"],
+        Want::Solve("m3", MOST_TASKS, None),
+    ),
+    (
+        &["alone", "--store=64", "m3", "--work=0", "--tasks=64"],
+        Want::Alone("m3", LEAST_STORE, None),
+    ),
+    (
+        &["alone", "m1", "--default-upper=7"],
+        Want::Alone("m1", PLAIN, Some(7)),
     ),
     (&["show", "m"], Want::Show("m")),
     (&["gen", "01"], Want::Gen(1)),
     (&["gen", "18446744073709551615"], Want::Gen(u64::MAX)),
     (&[], Want::Nothing),
     (&["solve"], Want::Nothing),
+    (&["alone"], Want::Nothing),
     (&["solve", ""], Want::Nothing),
     (&["solve", "a", "b"], Want::Nothing),
     (&["solve", "m3", "-x"], Want::Nothing),
@@ -169,15 +236,29 @@ const CASES: [Case; 22] = [
     (&["solve", "m3", "--work"], Want::Nothing),
     (&["solve", "m3", "--work="], Want::Nothing),
     (&["solve", "m3", "--work=1000000000001"], Want::Nothing),
+    (&["solve", "m3", "--tasks=0"], Want::Nothing),
+    (&["solve", "m3", "--tasks=65"], Want::Nothing),
+    (&["alone", "m3", "--tasks=2", "--tasks=2"], Want::Nothing),
+    (
+        &["solve", "m3", "--tasks=64", "--store=65537"],
+        Want::Nothing,
+    ),
+    (&["solve", "m3", "--store=63"], Want::Nothing),
+    (
+        &["solve", "m3", "--tasks=1", "--store=4194305"],
+        Want::Nothing,
+    ),
+    (&["solve", "m", "--threads=2"], Want::Nothing),
     (&["solve", "m", "--default-upper=2147483649"], Want::Nothing),
     (&["show", "--default-upper=1", "m"], Want::Nothing),
+    (&["gen", "--tasks=1", "1"], Want::Nothing),
     (&["gen", "18446744073709551616"], Want::Nothing),
     (&["gen", "000000000000000000007"], Want::Nothing),
 ];
 
-fn is_solve(job: &SolveJob, model: &str, work: u64, default_upper: Option<u32>) -> bool {
+fn is_search(job: &SolveJob, model: &str, tune: Tune, default_upper: Option<u32>) -> bool {
     job.model.as_slice() == model.as_bytes()
-        && job.work == work
+        && job.tune == tune
         && job.default_upper == default_upper
 }
 
@@ -188,8 +269,11 @@ fn asks(alloc: Global, case: Case) -> Result<bool, OutOfMemory> {
         words.push(String::from_str(alloc, word)?)?;
     }
     Ok(match (settings(alloc, words.as_slice()), case.1) {
-        (Ok(Job::Solve(job)), Want::Solve(model, work, upper)) => is_solve(
-            &job, model, work, upper,
+        (Ok(Job::Solve(job)), Want::Solve(model, tune, upper)) => is_search(
+            &job, model, tune, upper,
+        ),
+        (Ok(Job::Alone(job)), Want::Alone(model, tune, upper)) => is_search(
+            &job, model, tune, upper,
         ),
         (Ok(Job::Show(model)), Want::Show(want)) => model.as_slice() == want.as_bytes(),
         (Ok(Job::Gen(number)), Want::Gen(want)) => number == want,

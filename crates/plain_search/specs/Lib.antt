@@ -1,9 +1,0 @@
-pub mod Corners
-pub mod Fits
-pub mod Nodes
-pub mod Views
-pub mod Sound
-pub mod Tasks
-pub mod Machine
-pub mod Plays
-pub mod Answers

@@ -1,0 +1,16 @@
+-- The search that words set: the machine's, with so many slots.
+use Rattle.ip_core.specs.declared.model.ModelParts.{ModelParts}
+use Rattle.plain_tasks.specs.Answers.{answer_of}
+use Rattle.plain_tasks.specs.Rules.{rules}
+use Rattle.plain_tasks.specs.declared.answer.Answer.{Answer}
+use Rattle.stamp_machine.specs.Machine.{history}
+use Rattle.stamp_machine.specs.declared.limits.Limits.{Limits}
+use Rattle.xsearch_words.specs.declared.tune.Tune.{Tune}
+
+-- a slot for each task, each with the limit on work and the store that are set
+abbrev pub limits_of : Tune → Limits
+limits_of tune = record { slots = tune.tasks; work = tune.work; store = tune.store }
+
+-- the answer of the machine's history of the plain search: how it ended, and the first found point of least value
+abbrev pub searched : ModelParts → Tune → Answer
+searched m tune = answer_of m (history (rules m) (limits_of tune)).entries

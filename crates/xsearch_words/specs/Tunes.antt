@@ -1,0 +1,31 @@
+-- How a search is run, and what the words set of it.
+use Rattle.std.specs.Prelude.{ℕ, ◌≤◌, ◌*◌, ◌/◌, ◌^◌, nat_le, if◌then◌else◌, List, Option, Some, None}
+use Rattle.xsearch_words.specs.Forms.{value}
+use Rattle.xsearch_words.specs.Numbers.{number_or}
+use Rattle.xsearch_words.specs.Options.{given}
+use Rattle.xsearch_words.specs.declared.command.Key.TheVariants.{Tasks, Work, Store}
+use Rattle.xsearch_words.specs.declared.tune.Tune.{Tune}
+
+-- the ranges of how a search is run
+pub record IsTune (tune : Tune) : Type 0 where
+  pub some_slots : 1 ≤ tune.tasks
+  pub few_slots : tune.tasks ≤ 64
+  pub little_work : tune.work ≤ 10 ^ 12
+  pub some_store : 64 ≤ tune.store
+  pub small_store : tune.tasks * tune.store ≤ 2 ^ 22
+
+-- the store of each task where the words give none: the whole store in equal parts, rounded down
+abbrev pub default_store : ℕ → ℕ
+default_store tasks = 2 ^ 22 / tasks
+
+-- so many tasks with this work and store for each, where their stores together are at most 2^22
+abbrev pub tune_of : ℕ → ℕ → ℕ → Option Tune
+tune_of tasks work store = if nat_le (tasks * store) (2 ^ 22) then Some (record { tasks = tasks; work = work; store = store }) else None
+
+-- `[--tasks=N] [--work=N] [--store=N]`
+abbrev pub given_tune : List (List ℕ) → Option Tune
+given_tune words =
+    given (number_or 4 1 64 (value Tasks words)) (λ tasks.
+    given (number_or 200000000 0 (10 ^ 12) (value Work words)) (λ work.
+    given (number_or (default_store tasks) 64 (2 ^ 22) (value Store words)) (λ store.
+    tune_of tasks work store)))
