@@ -21,3 +21,5 @@ pub mod IntProducts
 pub mod ColumnSums
 pub mod NarrowSums
 pub mod DecimalReads
+pub mod Reaching
+pub mod SmallModels

@@ -2,7 +2,11 @@ use Rattle.std.proofs.Common.{◌≡◌, ℕ, zero, suc, ◌+◌, ◌<◌, ◌�
 use Rattle.std.specs.List.Sorted.{IsStrictlyIncreasing}
 use Rattle.std.proofs.lemmas.Bool.{cases_lt}
 use Rattle.std.proofs.lemmas.List.{get_or-map, length-map}
-use Rattle.ip_core.specs.Rows.{AreTerms}
+use Rattle.std.proofs.lemmas.List.Elements.{All-weaker}
+use Rattle.ip_core.specs.Rows.{AreTerms, IsRow, AreRows, IsShort, AreShort}
+use Rattle.ip_core.specs.Sides.{Sides}
+use Rattle.ip_core.specs.declared.limits.TheConstants.{MAX_COLUMNS}
+use Rattle.ip_core.specs.declared.row.Row.{Row}
 use Rattle.ip_core.specs.declared.row.Term.{Term}
 
 -- a number of a rising list is at least its place
@@ -24,3 +28,11 @@ few_cases n terms known rising (inl many) =
 -- terms whose columns rise are no more than the columns
 pub rising-le_columns : (n : ℕ) (terms : List Term) → AreTerms n terms → IsStrictlyIncreasing (map (λ t. t.col) terms) → length terms ≤ n
 rising-le_columns n terms known rising = few_cases n terms known rising (cases_lt n (length terms))
+
+-- a row of a model is short
+pub row_short : (n : ℕ) (root : Sides) (row : Row) → n ≤ MAX_COLUMNS → IsRow n root row → IsShort row
+row_short n root row few valid = record { few = omega (arith, rising-le_columns n row.terms valid.terms valid.rising, few) }
+
+-- and so are all its rows, and cuts that keep the same limits
+pub rows_short : (n : ℕ) (root : Sides) (rows : List Row) → n ≤ MAX_COLUMNS → AreRows n root rows → AreShort rows
+rows_short n root rows few valid = record { each = All-weaker (IsRow n root) IsShort (λ row h. row_short n root row few h) rows valid.each }

@@ -15,11 +15,12 @@ abbrev pub objective_width : Sides → List ℤ → ℤ → ℕ
 objective_width s costs constant =
     unsigned_abs constant + sum_below (length costs) (λ j. part_width s (int_at costs j) j)
 
--- costs and bounds stand for the same columns, few enough, and the bounds keep their limit
+-- costs, lows and highs stand for the same columns, few enough, and the bounds keep their limit
 pub record HasBounds (m : ModelParts) : Type 0 where
   pub columns : length m.cols ≤ MAX_COLUMNS
   pub costs : length m.costs ≡ length m.cols
   pub box : length m.root.lows ≡ length m.cols
+  pub highs : length m.root.highs ≡ length m.cols
   pub limits : HasLimits m.root
 
 -- the rows and their terms are few enough

@@ -1,10 +1,10 @@
-use Rattle.std.specs.Prelude.{◌==◌, if◌then◌else◌, ℕ, ◌≤◌, ◌<◌, ◌≢◌, ◌+◌, ◌*◌, List, map, ℤ, pos, ◌*ℤ◌, ◌≤ℤ◌, unsigned_abs, sum_by, All}
+use Rattle.std.specs.Prelude.{◌==◌, if◌then◌else◌, ℕ, ◌≤◌, ◌<◌, ◌≢◌, ◌+◌, ◌*◌, List, length, map, ℤ, pos, ◌*ℤ◌, ◌≤ℤ◌, unsigned_abs, sum_by, All}
 use Rattle.std.specs.List.Sorted.{IsStrictlyIncreasing}
 use Rattle.ip_core.specs.Numbers.{int_at, int_sum_by}
 use Rattle.ip_core.specs.Sides.{Sides, reach}
 use Rattle.ip_core.specs.declared.row.Term.{Term}
 use Rattle.ip_core.specs.declared.row.Row.{Row}
-use Rattle.ip_core.specs.declared.limits.TheConstants.{MAX_WIDTH}
+use Rattle.ip_core.specs.declared.limits.TheConstants.{MAX_COLUMNS, MAX_WIDTH}
 
 -- what terms add up to at a point: the sum of coefficient times value
 abbrev pub activity : List ℤ → List Term → ℤ
@@ -56,3 +56,20 @@ pub record IsRow (n : ℕ) (s : Sides) (row : Row) : Type 0 where
 -- each row is one of a model with n columns
 pub record AreRows (n : ℕ) (s : Sides) (rows : List Row) : Type 0 where
   pub each : All (IsRow n s) rows
+
+-- a row whose columns are those of the box and whose width over the box is within the limit
+pub record IsReady (s : Sides) (row : Row) : Type 0 where
+  pub terms : AreTerms (length s.lows) row.terms
+  pub narrow : row_width s row ≤ MAX_WIDTH
+
+-- each row is ready for the box
+pub record AreReady (s : Sides) (rows : List Row) : Type 0 where
+  pub each : All (IsReady s) rows
+
+-- the row has no more terms than a model has columns
+pub record IsShort (row : Row) : Type 0 where
+  pub few : length row.terms ≤ MAX_COLUMNS
+
+-- so has each row
+pub record AreShort (rows : List Row) : Type 0 where
+  pub each : All IsShort rows

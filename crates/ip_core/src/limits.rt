@@ -1,3 +1,5 @@
+ghost use Rattle.std.specs.Prelude.{◌≡◌, ◌^◌};
+
 /// The most columns of a model.
 pub const MAX_COLUMNS: usize = 4_096;
 
@@ -18,3 +20,14 @@ pub const MAX_DECIMALS: u8 = 9;
 
 /// The most bytes of a name.
 pub const MAX_NAME: usize = 255;
+
+/// A law with nothing to run: which numbers the limits are.
+pub fn limit_numbers()
+    ensures columns { MAX_COLUMNS ≡ 4096 }
+    ensures rows { MAX_ROWS ≡ 4096 }
+    ensures terms { MAX_TERMS ≡ 65536 }
+    ensures bound { MAX_BOUND ≡ 2 ^ 31 }
+    ensures width { MAX_WIDTH ≡ 2 ^ 50 }
+    ensures decimals { MAX_DECIMALS ≡ 9 }
+    ensures name { MAX_NAME ≡ 255 }
+{}

@@ -1,4 +1,4 @@
-ghost use Rattle.std.specs.Prelude.{◌≡◌, ◌∷◌, ◌++◌, ◌==◌, ◌<◌, [], length, slice_set, take, OnErr, OnOk};
+ghost use Rattle.std.specs.Prelude.{◌≡◌, ◌∷◌, ◌++◌, ◌==◌, ◌<◌, ◌≤◌, [], length, insert, remove, slice_get, slice_set, take, OnErr, OnOk, Some};
 ghost use Rattle.std.specs.Borrow.{Lends, sem, Array};
 ghost use Rattle.ip_core.specs.contracts.list.List.{the_row};
 ghost use Rattle.ip_core.specs.Seq.{with_front};
@@ -66,6 +66,28 @@ impl<T> List<T> {
         self.items[place] = item;
     }
 
+    /// Puts an item in at a place, before the items that stand from there on. A refused insert leaves the list as before,
+    /// and drops the item.
+    pub fn insert(&mut self, place: usize, item: T) -> Result<(), OutOfMemory>
+    where
+        T: Drop,
+        requires { place ≤ length self.old }
+        ensures ok { OnOk result (self.new ≡ insert self.old place item) }
+        ensures err { OnErr result (self.new ≡ self.old) }
+    {
+        self.items.insert(place, item)?;
+        Ok(())
+    }
+
+    /// Takes out the item at a place, which exists. The items behind it move up. It takes no memory.
+    pub fn remove(&mut self, place: usize) -> T
+        requires { place < length self.old }
+        ensures item { slice_get self.old place ≡ Some result }
+        ensures left { self.new ≡ remove self.old place }
+    {
+        self.items.remove(place)
+    }
+
     /// Drops all items but the first `len`.
     pub fn truncate(&mut self, len: usize)
     where
@@ -77,7 +99,8 @@ impl<T> List<T> {
 
     /// The items in order, to be changed in place.
     pub fn as_mut_slice(&mut self) -> &mut [T]
-        ensures* writes_back { sem 𝓛 (Lends (the_row T.row) (Array T.row 0) self.entry result (with_front self.entry.now)) }
+        ensures* writes_back { sem 𝓛
+            (Lends (the_row T.row) (Array T.row 0) self.entry result (with_front self.entry.now)) }
         ensures value { result.now ≡ self.old }
     {
         self.items.as_mut_slice()

@@ -60,6 +60,13 @@ fn bounds(lows: List<i64>, highs: List<i64>) -> Option<Bounds> {
     }
 }
 
+/// The least and the greatest value over the root box.
+#[tactic(auto, using(crate::proofs::Reaching::root_within_reach))]
+fn values_of(model: &Model) -> (i64, i64) {
+    let root = model.root();
+    (least_value(model, root), greatest_value(model, root))
+}
+
 /// Three columns from 0 to 3, to be kept within 5, 11 and 8.
 #[test]
 fn judges_points(rt: HostRuntime) -> Result<(), Fail> {
@@ -71,6 +78,7 @@ fn judges_points(rt: HostRuntime) -> Result<(), Fail> {
     let model = model(alloc, &[-5, -4, -3], 3, rows)?.ok_or("a model")?;
     assert_eq!(rt; model.costs(), [-5, -4, -3].as_slice());
     assert_eq!(rt; model.rows().len(), 3);
+    assert_eq!(rt; values_of(&model), (-36, 0));
     assert_eq!(rt; model.name().text().as_slice(), b"three".as_slice());
     assert_eq!(rt;
         (model.constant(), model.decimals(), model.maximise()),

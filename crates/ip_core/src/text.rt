@@ -1,4 +1,7 @@
 ghost use Rattle.std.specs.Prelude.{◌≡◌, ◌∷◌, ◌++◌, ◌==◌, [], length, IfOk, OnErr, OnOk};
+ghost use Rattle.std.specs.Borrow.{Lends, sem, Array, u8};
+ghost use Rattle.ip_core.specs.contracts.text.Text.{the_row};
+ghost use Rattle.ip_core.specs.Seq.{with_front};
 
 use crate::OutOfMemory;
 use std::alloc::Global;
@@ -58,6 +61,15 @@ impl Text {
         ensures { result ≡ (length self.now == 0) }
     {
         self.bytes.is_empty()
+    }
+
+    /// The bytes in order, to be changed in place.
+    pub fn as_mut_slice(&mut self) -> &mut [u8]
+        ensures* writes_back { sem 𝓛
+            (Lends the_row (Array u8 0) self.entry result (with_front self.entry.now)) }
+        ensures value { result.now ≡ self.old }
+    {
+        self.bytes.as_mut_slice()
     }
 
     /// The bytes in order.
