@@ -15,3 +15,4 @@ pub mod Histories
 pub mod Merges
 pub mod Occurrences
 pub mod Keeping
+pub mod Endings

@@ -9,3 +9,4 @@ pub mod Laws
 pub mod Merges
 pub mod Relay
 pub mod RelayLaw
+pub mod Endings

@@ -1,3 +1,4 @@
+ghost use Rattle.stamp_machine.specs.Endings.{EndsHaveCauses, HaltsHaveCauses, HasNoOwnHalt};
 ghost use Rattle.stamp_machine.specs.Laws.{HasLesserKeysBefore, HaveKnownEnds, HaveFronts, IsLawfulAfter, HaveFittingLocals, HaveKnownLogs, AreChosen, ArePlayed, HasRisingClocks, HasRisingKeys, HasLastMove};
 ghost use Rattle.stamp_machine.specs.Limits.{AreLimits};
 ghost use Rattle.stamp_machine.specs.Machine.{final};
@@ -92,6 +93,21 @@ pub fn moves_are_in_front<T: Tasker>(tasker: &T, limits: &Limits)
 /// A law of the machine, with nothing to run: a move that a limit ends, or whose task has begun, is the same on every view.
 pub fn running_tasks_read_nothing<T: Tasker>(tasker: &T, limits: &Limits)
     ensures { AreUnread (T.rules tasker.now) limits.now }
+{}
+
+/// A law of the machine, with nothing to run: where no task gives a Halt, each Halt of the history is that of a slot whose
+/// clock was below the limit on work, and which had more words to publish than its store takes.
+pub fn halts_have_causes<T: Tasker>(tasker: &T, limits: &Limits)
+    requires { HasNoOwnHalt (T.rules tasker.now) }
+    ensures { HaltsHaveCauses (T.rules tasker.now) limits.now }
+{}
+
+/// A law of the machine, with nothing to run: where no task gives a Halt, each slot is over because its clock came to the
+/// limit on work, because of a Halt of its own, or because nothing was left to do.
+pub fn ends_have_causes<T: Tasker>(tasker: &T, limits: &Limits)
+    requires ranges { AreLimits limits.now }
+    requires no_halt { HasNoOwnHalt (T.rules tasker.now) }
+    ensures { EndsHaveCauses (T.rules tasker.now) limits.now }
 {}
 
 /// A law of histories, with nothing to run: of another slot, what lies below a key is what it has published up to the key's
