@@ -1,7 +1,7 @@
 -- Histories and answers worked out by hand.
 use Rattle.std.proofs.Common.{◌≡◌, ℕ, [], ◌∷◌, Some, None, pos, false, replicate, refl}
 use Rattle.ip_core.specs.declared.model.ModelParts.{ModelParts}
-use Rattle.work_stamp.specs.Histories.{keyed}
+use Rattle.work_stamp.specs.Histories.{keyed_entry}
 use Rattle.work_stamp.specs.declared.entry.Entry.{Entry}
 use Rattle.work_stamp.specs.declared.entry.Entry.TheVariants.{Start, Found, Split, Closed, Done, Halt}
 use Rattle.work_stamp.specs.declared.stamped.KeyedEntry.{KeyedEntry}
@@ -17,7 +17,7 @@ abbrev limits : ℕ → ℕ → ℕ → Limits
 limits slots work store = record { slots = slots; work = work; store = store }
 
 abbrev by : ℕ → ℕ → Entry → KeyedEntry
-by stamp slot e = keyed (record { stamp = stamp; slot = slot }) e
+by stamp slot e = keyed_entry (record { stamp = stamp; slot = slot }) e
 
 -- the history after so many moves
 abbrev after : ℕ → ModelParts → Limits → History

@@ -11,7 +11,7 @@ use Rattle.plain_tasks.specs.Rules.{chunk_of, is_none, rules}
 use Rattle.plain_tasks.specs.Tasks.{chunk_work}
 use Rattle.plain_tasks.specs.declared.local.Local.{Local}
 use Rattle.plain_tasks.specs.declared.local.Task.{Task}
-use Rattle.plain_tasks.specs.Lemmas.Agreeing.{agrees_at_first, chunk_agrees, halt_joins, pending_follows, pending_joins, slot_leaves, taken_follow, taken_join}
+use Rattle.plain_tasks.specs.Lemmas.Agreeing.{agrees_at_first, chunk_agrees, halt_joins, pending_follows, pending_joins, slot_leaves, take_follows, take_joins}
 use Rattle.plain_tasks.specs.Lemmas.Beginning.{begun_fits, end_keeps, idle_keeps, some_task, taken_begins, taken_words}
 use Rattle.plain_tasks.specs.Lemmas.Fitting.{fresh_fits, view_fits}
 use Rattle.plain_tasks.specs.Lemmas.Rooms.{room_of}
@@ -60,8 +60,8 @@ module _ (m : ModelParts) (valid : IsModel m) (paired : IsPaired m.root) where
     agrees_at_first = λ slots few. agrees_at_first m slots paired few;
     pending_follows = λ history slots slot l e es short agrees there. pending_follows m history slots slot l e es short agrees there;
     pending_joins = λ history slots slot k l e es short agrees there. pending_joins m history slots slot k l e es valid short agrees there;
-    taken_follow = λ history slots slot k l es short agrees there start does. taken_follow m history k l es short does;
-    taken_join = λ history slots slot k l es short agrees there start does. taken_join m history slots slot k l es valid agrees there start does;
+    take_follows = λ history slots slot k l es short agrees there start does. take_follows m history k l es short does;
+    take_joins = λ history slots slot k l es short agrees there start does. take_joins m history slots slot k l es valid agrees there start does;
     chunk_agrees = λ history slots slot l short agrees there begun_task. chunk_agrees m history slots slot l valid paired agrees there begun_task;
     halt_follows = λ history slots short agrees. record { short = omega arith; joins = tt };
     halt_joins = λ history slots k short agrees. halt_joins m history slots k valid agrees;

@@ -3,7 +3,7 @@ use Rattle.std.proofs.Common.{◌≡◌, ◌∙◌, ℕ, zero, suc, ◌+◌, ◌
 use Rattle.std.specs.Prelude.{nat_le}
 use Rattle.std.proofs.lemmas.Bool.{false≢true}
 use Rattle.std.proofs.lemmas.List.{append-nil}
-use Rattle.work_stamp.specs.Histories.{keyed, under}
+use Rattle.work_stamp.specs.Histories.{keyed_entry, under}
 use Rattle.work_stamp.specs.Taskers.{Rules, view_after, view_of}
 use Rattle.work_stamp.specs.declared.entry.Entry.{Entry}
 use Rattle.work_stamp.specs.declared.entry.Entry.TheVariants.{Start, CutStart, HeurStart, Done, Found, Cut, Split, Closed, Halt}
@@ -12,7 +12,7 @@ use Rattle.work_stamp.specs.declared.stamped.KeyedEntry.{KeyedEntry}
 use Rattle.work_stamp.specs.declared.task.Begin.{Begin}
 use Rattle.work_stamp.specs.declared.task.Begin.TheVariants.{Take, Idle, End}
 use Rattle.stamp_machine.specs.Endings.{is_halt, has_halt, entries_of, HasNoOwnHalt, begin_entries, due_entries, IsFullAt, HasHalt, HaltsHaveCauses, IsOverOnFront, IsEndCause, EndsHaveCauses, Spent, Full, NothingLeft}
-use Rattle.stamp_machine.specs.Machine.{State, Turn, beginning, chunked, final, first, fits, idle, joined, last, move_next, move_of, moves, turn, turn_while_live, word_count}
+use Rattle.stamp_machine.specs.Machine.{State, Turn, turn_of_begin, slot_after_chunk, final, first, fits, slot_after_idle, slot_after_join, last, move_next, move_of, moves, turn, turn_while_live, word_count}
 use Rattle.stamp_machine.specs.Slots.{at, key_of, next_slot}
 use Rattle.stamp_machine.specs.declared.limits.Limits.{Limits}
 use Rattle.stamp_machine.specs.declared.slot.Slot.{Slot}
@@ -41,7 +41,7 @@ none_of_both : (a b : Bool) → a ≡ false → b ≡ false → (a || b) ≡ fal
 none_of_both true b h g = absurd (false≢true (sym h))
 none_of_both false b h g = g
 
-no_halt-append : (xs ys : List Entry) → has_halt xs ≡ false → has_halt ys ≡ false → has_halt (xs ++ ys) ≡ false
+pub no_halt-append : (xs ys : List Entry) → has_halt xs ≡ false → has_halt ys ≡ false → has_halt (xs ++ ys) ≡ false
 no_halt-append [] ys h g = g
 no_halt-append (x ∷ xs) ys h g =
     let o = or_none (is_halt x) (has_halt xs) h in
@@ -51,7 +51,7 @@ halt_behind : (xs : List Entry) → has_halt (xs ++ Halt ∷ []) ≡ true
 halt_behind [] = refl
 halt_behind (x ∷ xs) = or_right (is_halt x) (has_halt (xs ++ Halt ∷ [])) (halt_behind xs)
 
-halt_is : (e : Entry) → is_halt e ≡ true → e ≡ Halt
+pub halt_is : (e : Entry) → is_halt e ≡ true → e ≡ Halt
 halt_is (Start node) h = absurd (false≢true h)
 halt_is CutStart h = absurd (false≢true h)
 halt_is (HeurStart node) h = absurd (false≢true h)
@@ -72,17 +72,17 @@ some_is_no_none : {A : Type 0} (x : A) → Some x ≡ None → ⊥
 some_is_no_none x e = cc
 
 -- a Halt under a key is one among the entries under that key
-halt_under : (k other : Key) (es : List Entry) (place : ℕ) → at (under k es) place ≡ Some (keyed other Halt) → (other ≡ k) × (has_halt es ≡ true)
-halt_under k other [] place e = absurd (none_is_no_some (keyed other Halt) e)
+halt_under : (k other : Key) (es : List Entry) (place : ℕ) → at (under k es) place ≡ Some (keyed_entry other Halt) → (other ≡ k) × (has_halt es ≡ true)
+halt_under k other [] place e = absurd (none_is_no_some (keyed_entry other Halt) e)
 halt_under k other (x ∷ es) zero e =
-    let same = same_some (keyed k x) (keyed other Halt) e in
+    let same = same_some (keyed_entry k x) (keyed_entry other Halt) e in
     (sym (ap (λ (y : KeyedEntry). y.key) same), or_left (is_halt x) (has_halt es) (ap (λ (y : KeyedEntry). is_halt y.entry) same))
 halt_under k other (x ∷ es) (suc place) e =
     let h = halt_under k other es place e in
     (h.0, or_right (is_halt x) (has_halt es) h.1)
 
 place_of : (k : Key) (x : Entry) (es : List Entry) (b : Bool) → is_halt x ≡ b → (b || has_halt es) ≡ true → (has_halt es ≡ true → HasHalt (under k es) k) → HasHalt (under k (x ∷ es)) k
-place_of k x es true is h later = record { place = 0; there = ap (λ y. Some (keyed k y)) (halt_is x is) }
+place_of k x es true is h later = record { place = 0; there = ap (λ y. Some (keyed_entry k y)) (halt_is x is) }
 place_of k x es false is h later = let l = later h in record { place = suc l.place; there = l.there }
 
 under_halt : (k : Key) (es : List Entry) → has_halt es ≡ true → HasHalt (under k es) k
@@ -106,14 +106,14 @@ at-behind [] ys place x e = (place, e)
 at-behind (z ∷ xs) ys place x e = let r = at-behind xs ys place x e in (suc r.0, r.1)
 
 halt_in_front : (xs ys : List KeyedEntry) (k : Key) → HasHalt xs k → HasHalt (xs ++ ys) k
-halt_in_front xs ys k h = record { place = h.place; there = at-front xs ys h.place (keyed k Halt) h.there }
+halt_in_front xs ys k h = record { place = h.place; there = at-front xs ys h.place (keyed_entry k Halt) h.there }
 
 halt_in_rest : (xs ys : List KeyedEntry) (k : Key) → HasHalt ys k → HasHalt (xs ++ ys) k
-halt_in_rest xs ys k h = let r = at-behind xs ys h.place (keyed k Halt) h.there in record { place = r.0; there = r.1 }
+halt_in_rest xs ys k h = let r = at-behind xs ys h.place (keyed_entry k Halt) h.there in record { place = r.0; there = r.1 }
 
 -- ---- words
 
-word_count-append : (xs ys : List Entry) → word_count (xs ++ ys) ≡ word_count xs + word_count ys
+pub word_count-append : (xs ys : List Entry) → word_count (xs ++ ys) ≡ word_count xs + word_count ys
 word_count-append [] ys = omega arith
 word_count-append (x ∷ xs) ys = omega (arith, word_count-append xs ys)
 
@@ -187,7 +187,7 @@ module _ (V L : Type 0) (r : Rules V L) (limits : Limits) (own : HasNoOwnHalt r)
     }
 
     begins : slot.clock < limits.work → (does : Begin) → r.at_start live.local ≡ true → (r.begin w live.local).does ≡ does →
-        Explained (beginning r limits (joined slot live) live.pending (r.begin w live.local).local does)
+        Explained (turn_of_begin r limits (slot_after_join slot live) live.pending (r.begin w live.local).local does)
     begins early End free is = record {
       halts = λ h. absurd (false≢true (sym move.quiet ∙ h));
       over = λ none. inr (inr (record {
@@ -200,12 +200,12 @@ module _ (V L : Type 0) (r : Rules V L) (limits : Limits) (own : HasNoOwnHalt r)
       }));
       quiet = tt;
     }
-    begins early Idle free is = goes_on (idle (joined slot live) (r.begin w live.local).local) (record { local = (r.begin w live.local).local; pending = []; leaves = [] }) refl refl
+    begins early Idle free is = goes_on (slot_after_idle (slot_after_join slot live) (r.begin w live.local).local) (record { local = (r.begin w live.local).local; pending = []; leaves = [] }) refl refl
     begins early (Take es) free is =
         let none : has_halt es ≡ false = sym (ap (λ (d : Begin). has_halt (entries_of d)) is) ∙ own.begin w live.local in
         let due : due_entries r number v slot live ≡ live.pending ++ es =
         ap (λ (t : Bool). live.pending ++ (if t then entries_of (r.begin w live.local).does else [])) free ∙ ap (λ (d : Begin). live.pending ++ entries_of d) is in
-        by_test Explained (fits limits (joined slot live).words es) _ _
+        by_test Explained (fits limits (slot_after_join slot live).words es) _ _
         (λ fit. record {
           halts = λ h. absurd (false≢true (sym (no_halt-append live.pending es move.quiet none) ∙ h));
           over = λ no. absurd (some_is_no_none _ no);
@@ -224,7 +224,7 @@ module _ (V L : Type 0) (r : Rules V L) (limits : Limits) (own : HasNoOwnHalt r)
         (λ early. by_test Explained (fits limits slot.words live.pending) _ _
         (λ fit. by_test Explained (r.at_start live.local) _ _
         (λ free. begins (lt_of_test limits.work slot.clock early) (r.begin w live.local).does free refl)
-        (λ busy. goes_on (chunked r (joined slot live) live.local) _ refl (own.chunk live.local)))
+        (λ busy. goes_on (slot_after_chunk r (slot_after_join slot live) live.local) _ refl (own.chunk live.local)))
         (λ past. record {
           halts = λ h. full (lt_of_test limits.work slot.clock early)
               (omega (arith, word_count-append live.pending (begin_entries r number v slot live), lt_of_test (slot.words + word_count live.pending) (limits.store - 4) past));
@@ -244,7 +244,7 @@ module _ (V L : Type 0) (r : Rules V L) (limits : Limits) (own : HasNoOwnHalt r)
 
   first_explained : AreExplained (first r limits)
   first_explained = record {
-    halts = λ k h. absurd (none_is_no_some (keyed k Halt) h.there);
+    halts = λ k h. absurd (none_is_no_some (keyed_entry k Halt) h.there);
     ends = λ number slot there none.
         let f = fresh_at r 0 limits.slots number slot there in
         absurd (some_is_no_none _ (sym (ap (λ (s : Slot L). s.live) f.0) ∙ none));
@@ -273,8 +273,8 @@ module _ (V L : Type 0) (r : Rules V L) (limits : Limits) (own : HasNoOwnHalt r)
 
   old_or_new : (history : List KeyedEntry) (number : ℕ) (k : Key) (t : Turn L) → IsExplained history number k t → ((other : Key) → HasHalt history other → IsFullAt r limits other) →
       (other : Key) → HasHalt (history ++ under k t.entries) other → IsFullAt r limits other
-  old_or_new history number k t explained old other h = by_place (at-append history (under k t.entries) h.place (keyed other Halt) h.there) where
-    by_place : (at history h.place ≡ Some (keyed other Halt)) ⊎ ((later : ℕ) × (at (under k t.entries) later ≡ Some (keyed other Halt))) → IsFullAt r limits other
+  old_or_new history number k t explained old other h = by_place (at-append history (under k t.entries) h.place (keyed_entry other Halt) h.there) where
+    by_place : (at history h.place ≡ Some (keyed_entry other Halt)) ⊎ ((later : ℕ) × (at (under k t.entries) later ≡ Some (keyed_entry other Halt))) → IsFullAt r limits other
     by_place (inl before) = old other (record { place = h.place; there = before })
     by_place (inr (later, there)) =
         let u = halt_under k other t.entries later there in
@@ -305,7 +305,7 @@ module _ (V L : Type 0) (r : Rules V L) (limits : Limits) (own : HasNoOwnHalt r)
   pub halts_explained : HaltsHaveCauses r limits
   halts_explained = (all_explained (last limits)).halts
 
-  over_where_none_lives : (slots : List (Slot L)) (number : ℕ) (slot : Slot L) (live : Option (Live L)) → slot.live ≡ live → next_slot slots ≡ None → at slots number ≡ Some slot → live ≡ None
+  pub over_where_none_lives : (slots : List (Slot L)) (number : ℕ) (slot : Slot L) (live : Option (Live L)) → slot.live ≡ live → next_slot slots ≡ None → at slots number ≡ Some slot → live ≡ None
   over_where_none_lives slots number slot None is none there = refl
   over_where_none_lives slots number slot (Some live) is none there = absurd (none_lives slots number slot live none there is)
 

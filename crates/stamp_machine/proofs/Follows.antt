@@ -1,7 +1,7 @@
 -- Entries that follow one after the other.
 use Rattle.std.proofs.Common.{◌≡◌, suc, List, [], ◌∷◌, ◌++◌, length, refl, sym, ap, subst, append_assoc}
 use Rattle.std.proofs.lemmas.List.{append-nil}
-use Rattle.work_stamp.specs.Histories.{keyed, under, FollowInTurn}
+use Rattle.work_stamp.specs.Histories.{keyed_entry, under, FollowInTurn}
 use Rattle.work_stamp.specs.Taskers.{Rules, view_after}
 use Rattle.work_stamp.specs.declared.entry.Entry.{Entry}
 use Rattle.work_stamp.specs.declared.key.Key.{Key}
@@ -9,7 +9,7 @@ use Rattle.work_stamp.specs.declared.stamped.KeyedEntry.{KeyedEntry}
 
 pub under-append : (k : Key) (xs ys : List Entry) → under k (xs ++ ys) ≡ under k xs ++ under k ys
 under-append k [] ys = refl
-under-append k (x ∷ xs) ys = ap (λ (rest : List KeyedEntry). keyed k x ∷ rest) (under-append k xs ys)
+under-append k (x ∷ xs) ys = ap (λ (rest : List KeyedEntry). keyed_entry k x ∷ rest) (under-append k xs ys)
 
 pub length-under : (k : Key) (xs : List Entry) → length (under k xs) ≡ length xs
 length-under k [] = refl

@@ -16,7 +16,7 @@ use Rattle.stamp_machine.specs.Machine.{Turn, State, turn, after_turn, move_next
 use Rattle.stamp_machine.specs.Kept.{HasRisen, IsPast}
 use Rattle.stamp_machine.specs.Laws.{HasRisingClocks, HasRisingKeys, HasLastMove, HasLesserKeysBefore, ArePlayed}
 use Rattle.stamp_machine.specs.Orders.{IsLess, IsNotLess, Each, AreInOrder, IsSorted}
-use Rattle.stamp_machine.specs.Runs.{below, of_slot, turn_in, state_of, joined_by, one_if, count_of}
+use Rattle.stamp_machine.specs.Runs.{below, of_slot, turn_in, state_of, entries_by, one_if, count_of}
 use Rattle.stamp_machine.specs.declared.limits.Limits.{Limits}
 use Rattle.stamp_machine.specs.declared.slot.Slot.{Slot}
 use Rattle.stamp_machine.specs.declared.slot.Live.{Live}
@@ -208,7 +208,7 @@ module _ (V L : Type 0) (r : Rules V L) (FitsView : V → Type 0) (FitsLocal : L
   -- each slot is what a count of its own moves makes of it
   abbrev PlaysBy : (ℕ → ℕ) → State L → Type 0
   PlaysBy count state = (number : ℕ) (slot : Slot L) → at state.slots number ≡ Some slot →
-      (slot ≡ state_of r limits H number (count number)) × (of_slot number state.entries ≡ joined_by r limits H number (count number))
+      (slot ≡ state_of r limits H number (count number)) × (of_slot number state.entries ≡ entries_by r limits H number (count number))
 
   other_slot : (k number : ℕ) (clock : ℕ) (es : List Entry) → (k ≡ number → ⊥) → of_slot number (under (record { stamp = clock; slot = k }) es) ≡ []
   other_slot k number clock es ne =
@@ -233,23 +233,23 @@ module _ (V L : Type 0) (r : Rules V L) (FitsView : V → Type 0) (FitsLocal : L
       let mine = plays k slot there in
       let same = own_turn n k (count k) slot next there mine.0 in
       let one : count k + one_if (Some k) k ≡ suc (count k) = ap (λ (b : Bool). count k + (if b then 1 else 0)) (eq-eqb k k refl) ∙ add-one (count k) in
-      set_each (λ number s. (s ≡ state_of r limits H number (count number + one_if (Some k) number)) × (of_slot number (state.entries ++ under key t.entries) ≡ joined_by r limits H number (count number + one_if (Some k) number))) state.slots k t.slot
+      set_each (λ number s. (s ≡ state_of r limits H number (count number + one_if (Some k) number)) × (of_slot number (state.entries ++ under key t.entries) ≡ entries_by r limits H number (count number + one_if (Some k) number))) state.slots k t.slot
       (λ number s ne here.
       let p = plays number s here in
       let none : count number + one_if (Some k) number ≡ count number = ap (λ (b : Bool). count number + (if b then 1 else 0)) (ne_eqb k number ne) ∙ add-zero (count number) in
       let entries = filter-append (λ e. nat_eq e.key.slot number) state.entries (under key t.entries) ∙ (ap (λ (es : List KeyedEntry). of_slot number state.entries ++ es) (other_slot k number slot.clock t.entries ne) ∙ append-nil (of_slot number state.entries)) in
-      (p.0 ∙ ap (state_of r limits H number) (sym none), entries ∙ (p.1 ∙ ap (joined_by r limits H number) (sym none))))
+      (p.0 ∙ ap (state_of r limits H number) (sym none), entries ∙ (p.1 ∙ ap (entries_by r limits H number) (sym none))))
       (let entries = filter-append (λ e. nat_eq e.key.slot k) state.entries (under key t.entries) ∙ (ap (λ (es : List KeyedEntry). of_slot k state.entries ++ es) (own_slot k slot.clock t.entries) ∙ ap (λ (es : List KeyedEntry). es ++ under key t.entries) mine.1) in
-      let moved : under key t.entries ≡ under (key_of k (state_of r limits H k (count k))) (turn_in r limits H k (state_of r limits H k (count k))).entries =
+      let after_move : under key t.entries ≡ under (key_of k (state_of r limits H k (count k))) (turn_in r limits H k (state_of r limits H k (count k))).entries =
       ap (λ (s : Slot L). under (key_of k s) t.entries) mine.0 ∙ ap (λ (x : Turn L). under (key_of k (state_of r limits H k (count k))) x.entries) same in
-      (ap (λ (x : Turn L). x.slot) same ∙ ap (state_of r limits H k) (sym one), entries ∙ (ap (λ (es : List KeyedEntry). joined_by r limits H k (count k) ++ es) moved ∙ ap (joined_by r limits H k) (sym one))))
+      (ap (λ (x : Turn L). x.slot) same ∙ ap (state_of r limits H k) (sym one), entries ∙ (ap (λ (es : List KeyedEntry). entries_by r limits H k (count k) ++ es) after_move ∙ ap (entries_by r limits H k) (sym one))))
 
   move_plays : (n : ℕ) (count : ℕ → ℕ) (o : Option ℕ) → next_slot (moves r limits n).slots ≡ o → PlaysBy count (moves r limits n) →
       PlaysBy (λ number. count number + one_if o number) (move_next r limits (moves r limits n) o)
   move_plays n count None e plays = λ number slot there.
       let p = plays number slot there in
       let none : count number + zero ≡ count number = add-zero (count number) in
-      (p.0 ∙ ap (state_of r limits H number) (sym none), p.1 ∙ ap (joined_by r limits H number) (sym none))
+      (p.0 ∙ ap (state_of r limits H number) (sym none), p.1 ∙ ap (entries_by r limits H number) (sym none))
   move_plays n count (Some k) e plays =
       let x = next_is (moves r limits n).slots k e in
       subst (λ o. PlaysBy (λ number. count number + one_if (Some k) number) (move_of r limits (moves r limits n) k o)) (sym x.there) (turn_plays n k x.slot count e x.there plays)

@@ -7,8 +7,8 @@ use Rattle.work_stamp.specs.Taskers.{Rules}
 use Rattle.work_stamp.specs.declared.entry.Entry.TheVariants.{Halt}
 use Rattle.work_stamp.specs.declared.key.Key.{Key}
 use Rattle.work_stamp.specs.declared.stamped.KeyedEntry.{KeyedEntry}
-use Rattle.stamp_machine.specs.Slots.{ended}
-use Rattle.stamp_machine.specs.Machine.{fits, turn_while_live, going_on}
+use Rattle.stamp_machine.specs.Slots.{slot_after_end}
+use Rattle.stamp_machine.specs.Machine.{fits, turn_while_live, turn_after_join}
 use Rattle.stamp_machine.specs.Merges.{HasSides, HasLeastFirst, AreSame, AreUnread, reads_while_live}
 use Rattle.stamp_machine.specs.Orders.{IsNotLess, Each, IsSorted}
 use Rattle.stamp_machine.specs.Runs.{of_slot}
@@ -115,12 +115,12 @@ same_histories (e ∷ xs) (f ∷ ys) p q same =
     let tails : (number : ℕ) → of_slot number xs ≡ of_slot number ys = λ number. tail_same number e xs ys (same number ∙ ap (λ (x : KeyedEntry). of_slot number (x ∷ ys)) (sym heads)) in
     ap (λ (x : KeyedEntry). x ∷ xs) heads ∙ ap (λ (es : List KeyedEntry). f ∷ es) (same_histories xs ys (record { in_order = p.in_order.1 }) (record { in_order = q.in_order.1 }) tails)
 
-unread_going : {V L : Type 0} (r : Rules V L) (limits : Limits) (number : ℕ) (a b : V) (slot : Slot L) (live : Live L) → r.at_start live.local ≡ false → going_on r limits number a slot live ≡ going_on r limits number b slot live
+unread_going : {V L : Type 0} (r : Rules V L) (limits : Limits) (number : ℕ) (a b : V) (slot : Slot L) (live : Live L) → r.at_start live.local ≡ false → turn_after_join r limits number a slot live ≡ turn_after_join r limits number b slot live
 unread_going r limits number a b slot live e = going_else r limits number a slot live e ∙ sym (going_else r limits number b slot live e)
 
 unread_by : {V L : Type 0} (r : Rules V L) (limits : Limits) (number : ℕ) (a b : V) (slot : Slot L) (live : Live L) (over full start : Bool) → r.at_start live.local ≡ start → (not over && (full && start)) ≡ false →
-    (if over then (record { entries = []; slot = ended slot }) else (if full then going_on r limits number a slot live else (record { entries = Halt ∷ []; slot = ended slot })))
-    ≡ (if over then (record { entries = []; slot = ended slot }) else (if full then going_on r limits number b slot live else (record { entries = Halt ∷ []; slot = ended slot })))
+    (if over then (record { entries = []; slot = slot_after_end slot }) else (if full then turn_after_join r limits number a slot live else (record { entries = Halt ∷ []; slot = slot_after_end slot })))
+    ≡ (if over then (record { entries = []; slot = slot_after_end slot }) else (if full then turn_after_join r limits number b slot live else (record { entries = Halt ∷ []; slot = slot_after_end slot })))
 unread_by r limits number a b slot live true full start e h = refl
 unread_by r limits number a b slot live false false start e h = refl
 unread_by r limits number a b slot live false true true e h = cc

@@ -14,7 +14,7 @@ use Rattle.stamp_machine.specs.Machine.{Turn, State, turn, turn_while_live, afte
 use Rattle.stamp_machine.specs.Laws.{IsChosen, AreChosen, HaveKnownLogs, HaveKnownEnds, HaveFronts, HaveFittingLocals}
 use Rattle.stamp_machine.specs.Kept.{IsFittingWhileLive}
 use Rattle.stamp_machine.specs.Orders.{IsLess, Each}
-use Rattle.stamp_machine.specs.Runs.{below, of_slot, log, turn_in, state_of, joined_by, one_if, count_of}
+use Rattle.stamp_machine.specs.Runs.{below, of_slot, log, turn_in, state_of, entries_by, one_if, count_of}
 use Rattle.stamp_machine.specs.declared.limits.Limits.{Limits}
 use Rattle.stamp_machine.specs.declared.slot.Slot.{Slot}
 use Rattle.stamp_machine.specs.declared.slot.Live.{Live}
@@ -110,15 +110,15 @@ module _ (V L : Type 0) (r : Rules V L) (FitsView : V → Type 0) (FitsLocal : L
   over_turn : (number : ℕ) (slot : Slot L) → slot.live ≡ None → turn_in r limits H number slot ≡ record { entries = []; slot = slot }
   over_turn number slot e = ap (turn_while_live r limits number (view_of r (below (key_of number slot) H)) slot) e
 
-  over_stays : (number m d : ℕ) → (state_of r limits H number m).live ≡ None → (state_of r limits H number (m + d) ≡ state_of r limits H number m) × (joined_by r limits H number (m + d) ≡ joined_by r limits H number m)
-  over_stays number m zero e = (ap (state_of r limits H number) (add-zero m), ap (joined_by r limits H number) (add-zero m))
+  over_stays : (number m d : ℕ) → (state_of r limits H number m).live ≡ None → (state_of r limits H number (m + d) ≡ state_of r limits H number m) × (entries_by r limits H number (m + d) ≡ entries_by r limits H number m)
+  over_stays number m zero e = (ap (state_of r limits H number) (add-zero m), ap (entries_by r limits H number) (add-zero m))
   over_stays number m (suc d) e =
       let h = over_stays number m d e in
       let same : m + suc d ≡ suc (m + d) = omega arith in
       let over : (state_of r limits H number (m + d)).live ≡ None = ap (λ (s : Slot L). s.live) h.0 ∙ e in
       let t = over_turn number (state_of r limits H number (m + d)) over in (
         ap (state_of r limits H number) same ∙ (ap (λ (x : Turn L). x.slot) t ∙ h.0),
-        ap (joined_by r limits H number) same ∙ (ap (λ (x : Turn L). joined_by r limits H number (m + d) ++ under (key_of number (state_of r limits H number (m + d))) x.entries) t ∙ (append-nil (joined_by r limits H number (m + d)) ∙ h.1)),
+        ap (entries_by r limits H number) same ∙ (ap (λ (x : Turn L). entries_by r limits H number (m + d) ++ under (key_of number (state_of r limits H number (m + d))) x.entries) t ∙ (append-nil (entries_by r limits H number (m + d)) ∙ h.1)),
       )
 
   -- the slot of a number, and its play
@@ -150,7 +150,7 @@ module _ (V L : Type 0) (r : Rules V L) (FitsView : V → Type 0) (FitsLocal : L
   pub occurs : AreChosen r limits
   occurs number m live few lives = occurs_by number m live (nat_lt m (count_of r limits number (last limits))) refl few lives
 
-  ends_by : (number m : ℕ) (b : Bool) → nat_lt m (count_of r limits number (last limits)) ≡ b → number < limits.slots → (state_of r limits H number m).live ≡ None → of_slot number H ≡ joined_by r limits H number m
+  ends_by : (number m : ℕ) (b : Bool) → nat_lt m (count_of r limits number (last limits)) ≡ b → number < limits.slots → (state_of r limits H number m).live ≡ None → of_slot number H ≡ entries_by r limits H number m
   ends_by number m true e few over =
       let lt : m < count_of r limits number (last limits) = grind arith in
       let f = find number m (last limits) lt in
@@ -165,7 +165,7 @@ module _ (V L : Type 0) (r : Rules V L) (FitsView : V → Type 0) (FitsLocal : L
       let done = all_over number (state_of r limits H number c).live few refl in
       let h = over_stays number c (m - c) done in
       let p = played V L r FitsView FitsLocal MayFollow Agrees law limits ranges (last limits) number (state_of r limits H number c) (slot_there (last limits) number few) in
-      p.entries ∙ (sym h.1 ∙ ap (joined_by r limits H number) same)
+      p.entries ∙ (sym h.1 ∙ ap (entries_by r limits H number) same)
 
   pub ends_known : HaveKnownEnds r limits
   ends_known number m few over = ends_by number m (nat_lt m (count_of r limits number (last limits))) refl few over
@@ -193,8 +193,8 @@ module _ (V L : Type 0) (r : Rules V L) (FitsView : V → Type 0) (FitsLocal : L
       let slot = state_of r limits H number m in
       let l = chosen_end V L r FitsView FitsLocal MayFollow Agrees law limits ranges x.n number slot x.next x.there in
       let p = played V L r FitsView FitsLocal MayFollow Agrees law limits ranges x.n number slot x.there in
-      let mine : of_slot number (moves r limits x.n).entries ≡ joined_by r limits H number m = p.entries ∙ ap (joined_by r limits H number) x.count in
-      let known : (stamp : ℕ) → stamp ≤ slot.clock → log number stamp H ≡ filter (λ e. nat_lt e.key.stamp stamp) (joined_by r limits H number m) =
+      let mine : of_slot number (moves r limits x.n).entries ≡ entries_by r limits H number m = p.entries ∙ ap (entries_by r limits H number) x.count in
+      let known : (stamp : ℕ) → stamp ≤ slot.clock → log number stamp H ≡ filter (λ e. nat_lt e.key.stamp stamp) (entries_by r limits H number m) =
       λ stamp le.
       ap (log number stamp) l.longer
       ∙ (filter-append (λ e. nat_eq e.key.slot number && nat_lt e.key.stamp stamp) (moves r limits x.n).entries l.more

@@ -9,11 +9,11 @@ use Rattle.work_stamp.specs.declared.stamped.KeyedEntry.{KeyedEntry}
 use Rattle.stamp_machine.specs.Limits.{AreLimits}
 use Rattle.stamp_machine.specs.Slots.{at, key_of, fresh_slot, fresh_slots, next_slot}
 use Rattle.stamp_machine.specs.Machine.{Turn, turn, after_turn, move_next, move_of, moves, first, as_history, history}
-use Rattle.stamp_machine.specs.Plays.{CanTurn, grown, moved, play_of, PlaysMachine, left_by, moves_left_all}
+use Rattle.stamp_machine.specs.Plays.{CanTurn, with_entries, after_move, play_of, PlaysMachine, history_of_play, moves_left_all}
 use Rattle.stamp_machine.specs.declared.limits.Limits.{Limits}
 use Rattle.stamp_machine.specs.declared.play.Play.{Play}
-use Rattle.stamp_machine.specs.declared.play.Moved.{Moved}
-use Rattle.stamp_machine.specs.declared.play.Seen.{Seen}
+use Rattle.stamp_machine.specs.declared.play.AfterMove.{AfterMove}
+use Rattle.stamp_machine.specs.declared.play.HistoryView.{HistoryView}
 use Rattle.stamp_machine.specs.declared.slot.Slot.{Slot}
 use Rattle.stamp_machine.proofs.Places.{at-length}
 use Rattle.stamp_machine.proofs.Follows.{view_after-append}
@@ -60,7 +60,7 @@ module _ (V L : Type 0) (r : Rules V L) (FitsView : V → Type 0) (FitsLocal : L
     it_is : (next_is (moves r limits n).slots number next).slot ≡ slot
     it_is = let x = next_is (moves r limits n).slots number next in cc (x.there, there)
 
-    turns : CanTurn r FitsView FitsLocal MayFollow limits (play_of r (moves r limits n)).seen number slot
+    turns : CanTurn r FitsView FitsLocal MayFollow limits (play_of r (moves r limits n)).so_far number slot
     turns =
         let state = moves r limits n in
         let s = moves_stand V L r FitsView FitsLocal MayFollow Agrees law limits ranges n in
@@ -84,39 +84,39 @@ module _ (V L : Type 0) (r : Rules V L) (FitsView : V → Type 0) (FitsLocal : L
         let lives : slot.live ≡ Some x.live = ap (λ (y : Slot L). y.live) (sym it_is) ∙ x.lives in
         fewer_left V L r FitsView FitsLocal MayFollow Agrees law limits ranges (moves r limits n) (moves_stand V L r FitsView FitsLocal MayFollow Agrees law limits ranges n) number slot x.live there lives
 
-  pub can_turn : (play : Play V L) (p : PlaysMachine r limits play) (number : ℕ) (slot : Slot L) → next_slot play.slots ≡ Some number → at play.slots number ≡ Some slot → CanTurn r FitsView FitsLocal MayFollow limits play.seen number slot
+  pub can_turn : (play : Play V L) (p : PlaysMachine r limits play) (number : ℕ) (slot : Slot L) → next_slot play.slots ≡ Some number → at play.slots number ≡ Some slot → CanTurn r FitsView FitsLocal MayFollow limits play.so_far number slot
   can_turn play p number slot next there =
       let slots = ap (λ (x : Play V L). x.slots) p.is in
-      let seen = ap (λ (x : Play V L). x.seen) p.is in
-      subst (λ s. CanTurn r FitsView FitsLocal MayFollow limits s number slot) (sym seen)
+      let so_far = ap (λ (x : Play V L). x.so_far) p.is in
+      subst (λ s. CanTurn r FitsView FitsLocal MayFollow limits s number slot) (sym so_far)
       (turns p.count number slot (ap next_slot (sym slots) ∙ next) (ap (λ (s : List (Slot L)). at s number) (sym slots) ∙ there))
 
-  pub has_moved : (play : Play V L) (p : PlaysMachine r limits play) (number : ℕ) (slot : Slot L) (m : Moved V L) (slots' : List (Slot L)) → next_slot play.slots ≡ Some number → at play.slots number ≡ Some slot →
-      m ≡ moved r play.seen (key_of number slot) (turn r limits number play.seen.view slot) → slots' ≡ set play.slots number m.slot → PlaysMachine r limits (record { seen = m.seen; slots = slots' })
+  pub has_moved : (play : Play V L) (p : PlaysMachine r limits play) (number : ℕ) (slot : Slot L) (m : AfterMove V L) (slots' : List (Slot L)) → next_slot play.slots ≡ Some number → at play.slots number ≡ Some slot →
+      m ≡ after_move r play.so_far (key_of number slot) (turn r limits number play.so_far.view slot) → slots' ≡ set play.slots number m.slot → PlaysMachine r limits (record { so_far = m.so_far; slots = slots' })
   has_moved play p number slot m slots' next there is put =
       let slots = ap (λ (x : Play V L). x.slots) p.is in
-      let seen = ap (λ (x : Play V L). x.seen) p.is in
+      let so_far = ap (λ (x : Play V L). x.so_far) p.is in
       let state = moves r limits p.count in
       let t = turn r limits number (view_of r state.entries) slot in
       let then = next_state p.count number slot (ap next_slot (sym slots) ∙ next) (ap (λ (s : List (Slot L)). at s number) (sym slots) ∙ there) in
-      let moved_is : m ≡ moved r (play_of r state).seen (key_of number slot) t = is ∙ ap (λ (s : Seen V). moved r s (key_of number slot) (turn r limits number s.view slot)) seen in
-      let slots_are : slots' ≡ set state.slots number t.slot = put ∙ (ap (λ (s : List (Slot L)). set s number m.slot) slots ∙ ap (λ (x : Moved V L). set state.slots number x.slot) moved_is) in
+      let moved_is : m ≡ after_move r (play_of r state).so_far (key_of number slot) t = is ∙ ap (λ (s : HistoryView V). after_move r s (key_of number slot) (turn r limits number s.view slot)) so_far in
+      let slots_are : slots' ≡ set state.slots number t.slot = put ∙ (ap (λ (s : List (Slot L)). set s number m.slot) slots ∙ ap (λ (x : AfterMove V L). set state.slots number x.slot) moved_is) in
       let view = sym (view_after-append r r.fresh_view state.entries (under (key_of number slot) t.entries)) in
-      let whole : record { seen = m.seen; slots = slots' } ≡ play_of r (after_turn state number slot t) =
-      ap (λ (x : Moved V L). record { seen = x.seen; slots = slots' }) moved_is
-      ∙ (ap (λ (s : List (Slot L)). record { seen = grown r (play_of r state).seen (key_of number slot) t.entries; slots = s }) slots_are
-      ∙ ap (λ (v : V). record { seen = record { entries = state.entries ++ under (key_of number slot) t.entries; view = v }; slots = set state.slots number t.slot }) view) in
+      let whole : record { so_far = m.so_far; slots = slots' } ≡ play_of r (after_turn state number slot t) =
+      ap (λ (x : AfterMove V L). record { so_far = x.so_far; slots = slots' }) moved_is
+      ∙ (ap (λ (s : List (Slot L)). record { so_far = with_entries r (play_of r state).so_far (key_of number slot) t.entries; slots = s }) slots_are
+      ∙ ap (λ (v : V). record { so_far = record { entries = state.entries ++ under (key_of number slot) t.entries; view = v }; slots = set state.slots number t.slot }) view) in
       record { count = suc p.count; is = whole ∙ ap (play_of r) (sym then) }
 
-  pub has_fewer : (play : Play V L) (p : PlaysMachine r limits play) (number : ℕ) (slot : Slot L) (m : Moved V L) (slots' : List (Slot L)) → next_slot play.slots ≡ Some number → at play.slots number ≡ Some slot →
-      m ≡ moved r play.seen (key_of number slot) (turn r limits number play.seen.view slot) → slots' ≡ set play.slots number m.slot → moves_left_all limits slots' < moves_left_all limits play.slots
+  pub has_fewer : (play : Play V L) (p : PlaysMachine r limits play) (number : ℕ) (slot : Slot L) (m : AfterMove V L) (slots' : List (Slot L)) → next_slot play.slots ≡ Some number → at play.slots number ≡ Some slot →
+      m ≡ after_move r play.so_far (key_of number slot) (turn r limits number play.so_far.view slot) → slots' ≡ set play.slots number m.slot → moves_left_all limits slots' < moves_left_all limits play.slots
   has_fewer play p number slot m slots' next there is put =
       let slots = ap (λ (x : Play V L). x.slots) p.is in
-      let seen = ap (λ (x : Play V L). x.seen) p.is in
+      let so_far = ap (λ (x : Play V L). x.so_far) p.is in
       let state = moves r limits p.count in
       let t = turn r limits number (view_of r state.entries) slot in
-      let moved_is : m ≡ moved r (play_of r state).seen (key_of number slot) t = is ∙ ap (λ (s : Seen V). moved r s (key_of number slot) (turn r limits number s.view slot)) seen in
-      let slots_are : slots' ≡ set state.slots number t.slot = put ∙ (ap (λ (s : List (Slot L)). set s number m.slot) slots ∙ ap (λ (x : Moved V L). set state.slots number x.slot) moved_is) in
+      let moved_is : m ≡ after_move r (play_of r state).so_far (key_of number slot) t = is ∙ ap (λ (s : HistoryView V). after_move r s (key_of number slot) (turn r limits number s.view slot)) so_far in
+      let slots_are : slots' ≡ set state.slots number t.slot = put ∙ (ap (λ (s : List (Slot L)). set s number m.slot) slots ∙ ap (λ (x : AfterMove V L). set state.slots number x.slot) moved_is) in
       let less = fewer p.count number slot (ap next_slot (sym slots) ∙ next) (ap (λ (s : List (Slot L)). at s number) (sym slots) ∙ there) in
       omega (arith, less, ap (moves_left_all limits) slots_are, ap (moves_left_all limits) slots)
 
@@ -124,11 +124,11 @@ module _ (V L : Type 0) (r : Rules V L) (FitsView : V → Type 0) (FitsLocal : L
   unfolding moves
   plays_first play e = record { count = 0; is = e }
 
-  pub plays_whole : (play : Play V L) → PlaysMachine r limits play → next_slot play.slots ≡ None → left_by play ≡ history r limits
+  pub plays_whole : (play : Play V L) → PlaysMachine r limits play → next_slot play.slots ≡ None → history_of_play play ≡ history r limits
   plays_whole play p none =
       let slots = ap (λ (x : Play V L). x.slots) p.is in
       let done = whole V L r FitsView FitsLocal MayFollow Agrees law limits ranges p.count (ap next_slot (sym slots) ∙ none) in
-      ap left_by p.is ∙ ap as_history done
+      ap history_of_play p.is ∙ ap as_history done
 
 -- the slot that is taken out is the one of this number
 pub taken_out : {L : Type 0} (slots items : List (Slot L)) (number : ℕ) (slot : Slot L) → next_slot slots ≡ Some number → items ≡ slots → slot ≡ get_or items number slot → at slots number ≡ Some slot

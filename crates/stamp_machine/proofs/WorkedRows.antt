@@ -1,11 +1,11 @@
 -- Histories of the relay, worked out by hand.
 use Rattle.std.proofs.Common.{◌≡◌, ℕ, [], ◌∷◌, refl}
-use Rattle.work_stamp.specs.Histories.{keyed}
+use Rattle.work_stamp.specs.Histories.{keyed_entry}
 use Rattle.work_stamp.specs.declared.entry.Entry.{Entry}
 use Rattle.work_stamp.specs.declared.entry.Entry.TheVariants.{Start, Done, Halt}
 use Rattle.work_stamp.specs.declared.stamped.KeyedEntry.{KeyedEntry}
 use Rattle.stamp_machine.specs.Machine.{history}
-use Rattle.stamp_machine.specs.Relay.{relay, found, leaf}
+use Rattle.stamp_machine.specs.Relay.{relay, found_entry, leaf}
 use Rattle.stamp_machine.specs.declared.history.History.{History}
 use Rattle.stamp_machine.specs.declared.limits.Limits.{Limits}
 use Rattle.stamp_machine.specs.Machine.{moves, as_history}
@@ -14,7 +14,7 @@ abbrev limits : ℕ → ℕ → ℕ → Limits
 limits slots work store = record { slots = slots; work = work; store = store }
 
 abbrev by : ℕ → ℕ → Entry → KeyedEntry
-by stamp slot e = keyed (record { stamp = stamp; slot = slot }) e
+by stamp slot e = keyed_entry (record { stamp = stamp; slot = slot }) e
 
 -- the history after so many moves
 abbrev after : ℕ → Limits → History
@@ -22,7 +22,7 @@ after n l = as_history (moves relay l n)
 
 -- Two slots. At 700 slot 1 waits for slot 0, and both are over once three tasks have ended.
 pub two_slots : after 12 (limits 2 2000 1000) ≡ record {
-  entries = by 0 0 (Start 0) ∷ by 0 1 (Start 1) ∷ by 400 0 found ∷ by 400 1 found ∷ by 700 0 Done ∷ by 700 0 (Start 2) ∷ by 700 1 Done ∷ by 1100 0 found ∷ by 1400 0 Done ∷ [];
+  entries = by 0 0 (Start 0) ∷ by 0 1 (Start 1) ∷ by 400 0 found_entry ∷ by 400 1 found_entry ∷ by 700 0 Done ∷ by 700 0 (Start 2) ∷ by 700 1 Done ∷ by 1100 0 found_entry ∷ by 1400 0 Done ∷ [];
   records = (leaf ∷ leaf ∷ []) ∷ (leaf ∷ []) ∷ [];
   ends = 1400 ∷ 1700 ∷ [];
 }
@@ -32,7 +32,7 @@ two_slots = refl
 -- The last Done of slot 0 would be its words 60 to 62, of 60 that it may publish: it halts, and its record is dropped.
 -- Slot 1 waits in vain, past the limit of work.
 pub small_store : after 12 (limits 2 2000 64) ≡ record {
-  entries = by 0 0 (Start 0) ∷ by 0 1 (Start 1) ∷ by 400 0 found ∷ by 400 1 found ∷ by 700 0 Done ∷ by 700 0 (Start 2) ∷ by 700 1 Done ∷ by 1100 0 found ∷ by 1400 0 Halt ∷ [];
+  entries = by 0 0 (Start 0) ∷ by 0 1 (Start 1) ∷ by 400 0 found_entry ∷ by 400 1 found_entry ∷ by 700 0 Done ∷ by 700 0 (Start 2) ∷ by 700 1 Done ∷ by 1100 0 found_entry ∷ by 1400 0 Halt ∷ [];
   records = (leaf ∷ []) ∷ (leaf ∷ []) ∷ [];
   ends = 1400 ∷ 2700 ∷ [];
 }
@@ -41,7 +41,7 @@ small_store = refl
 
 -- At the limit of work a slot is over, and what is pending is dropped with its record.
 pub little_work : after 12 (limits 2 700 1000) ≡ record {
-  entries = by 0 0 (Start 0) ∷ by 0 1 (Start 1) ∷ by 400 0 found ∷ by 400 1 found ∷ [];
+  entries = by 0 0 (Start 0) ∷ by 0 1 (Start 1) ∷ by 400 0 found_entry ∷ by 400 1 found_entry ∷ [];
   records = [] ∷ [] ∷ [];
   ends = 700 ∷ 700 ∷ [];
 }
@@ -50,7 +50,7 @@ little_work = refl
 
 -- After two whole tasks 62 words are published, all that it may. A third task doesn't fit, and a Halt stands in its place.
 pub halt_at_take : after 12 (limits 1 5000 66) ≡ record {
-  entries = by 0 0 (Start 0) ∷ by 400 0 found ∷ by 700 0 Done ∷ by 700 0 (Start 1) ∷ by 1100 0 found ∷ by 1400 0 Done ∷ by 1400 0 Halt ∷ [];
+  entries = by 0 0 (Start 0) ∷ by 400 0 found_entry ∷ by 700 0 Done ∷ by 700 0 (Start 1) ∷ by 1100 0 found_entry ∷ by 1400 0 Done ∷ by 1400 0 Halt ∷ [];
   records = (leaf ∷ leaf ∷ []) ∷ [];
   ends = 1400 ∷ [];
 }

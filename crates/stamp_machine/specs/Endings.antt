@@ -1,6 +1,6 @@
 -- Why a Halt stands in a history, and why a slot is over.
 use Rattle.std.specs.Prelude.{ℕ, ◌≡◌, ◌≤◌, ◌<◌, ◌+◌, Bool, true, false, ◌||◌, if◌then◌else◌, List, [], ◌∷◌, ◌++◌, Some}
-use Rattle.work_stamp.specs.Histories.{keyed, under}
+use Rattle.work_stamp.specs.Histories.{keyed_entry, under}
 use Rattle.work_stamp.specs.Taskers.{Rules, view_after, view_of}
 use Rattle.work_stamp.specs.declared.entry.Entry.{Entry}
 use Rattle.work_stamp.specs.declared.entry.Entry.TheVariants.{Start, CutStart, HeurStart, Done, Found, Cut, Split, Closed, Halt}
@@ -71,7 +71,7 @@ pub record IsFullAt {V L : Type 0} (r : Rules V L) (limits : Limits) (k : Key) :
 -- a Halt stands in a history under a key
 pub record HasHalt (entries : List KeyedEntry) (k : Key) : Type 0 where
   pub place : ℕ
-  pub there : at entries place ≡ Some (keyed k Halt)
+  pub there : at entries place ≡ Some (keyed_entry k Halt)
 
 -- each Halt of the machine's history is that of a slot whose store was full
 abbrev pub HaltsHaveCauses : {V L : Type 0} → Rules V L → Limits → Type 0
@@ -95,7 +95,8 @@ pub data IsEndCause {V L : Type 0} (r : Rules V L) (limits : Limits) (entries : 
 
 -- each slot has such a cause in the end
 abbrev pub EndsHaveCauses : {V L : Type 0} → Rules V L → Limits → Type 0
-EndsHaveCauses r limits = (number : ℕ) (slot : Slot _) → at (final r limits).slots number ≡ Some slot →
+EndsHaveCauses r limits = (number : ℕ) (slot : Slot _) →
+    at (final r limits).slots number ≡ Some slot →
     IsEndCause r limits (final r limits).entries number slot
 
 -- a Halt stands in the machine's history, and the store of its slot was full
@@ -107,4 +108,5 @@ pub record HasFullSlot {V L : Type 0} (r : Rules V L) (limits : Limits) : Type 0
 -- every slot's clock ended at the limit on work or past it, and no Halt stands
 pub record IsAllSpent {V L : Type 0} (r : Rules V L) (limits : Limits) : Type 0 where
   pub no_halt : (k : Key) → HasHalt (history r limits).entries k → ⊥
-  pub ends : (number clock : ℕ) → at (history r limits).ends number ≡ Some clock → limits.work ≤ clock
+  pub ends : (number clock : ℕ) → at (history r limits).ends number ≡ Some clock →
+      limits.work ≤ clock

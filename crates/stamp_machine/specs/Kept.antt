@@ -39,10 +39,14 @@ abbrev pub tally : {L : Type 0} → Slot L → ℕ
 tally slot = slot.words + one_when_over slot.live
 
 -- a move of a live slot keeps agreement: its entries may follow one after the other
-pub record IsKept {V L : Type 0} (r : Rules V L) (FitsLocal : L → Type 0) (MayFollow : List KeyedEntry → Entry → Type 0) (Agrees : List KeyedEntry → List (Option (Standing L)) → Type 0)
-    (limits : Limits) (history : List KeyedEntry) (slots : List (Option (Standing L))) (number : ℕ) (old : Slot L) (t : Turn L) : Type 0 where
+pub record IsKept {V L : Type 0} (r : Rules V L) (FitsLocal : L → Type 0)
+    (MayFollow : List KeyedEntry → Entry → Type 0)
+    (Agrees : List KeyedEntry → List (Option (Standing L)) → Type 0)
+    (limits : Limits) (history : List KeyedEntry) (slots : List (Option (Standing L))) (number : ℕ)
+    (old : Slot L) (t : Turn L) : Type 0 where
   pub follow : FollowInTurn MayFollow history (under (key_of number old) t.entries)
-  pub agrees : Agrees (history ++ under (key_of number old) t.entries) (set slots number (standing_of t.slot))
+  pub agrees : Agrees (history ++ under (key_of number old) t.entries)
+      (set slots number (standing_of t.slot))
   pub fits : IsFittingWhileLive FitsLocal t.slot.live
   pub risen : HasRisen old t.slot
   pub left : moves_left limits t.slot ≤ limits.work - old.clock
@@ -55,11 +59,14 @@ tally_all [] = 0
 tally_all (slot ∷ slots) = tally slot + tally_all slots
 
 -- what holds before and after every move: history and slots agree, views and locals fit, and no store overflows
-pub record IsSound {V L : Type 0} (r : Rules V L) (FitsView : V → Type 0) (FitsLocal : L → Type 0) (Agrees : List KeyedEntry → List (Option (Standing L)) → Type 0)
+pub record IsSound {V L : Type 0} (r : Rules V L) (FitsView : V → Type 0) (FitsLocal : L → Type 0)
+    (Agrees : List KeyedEntry → List (Option (Standing L)) → Type 0)
     (limits : Limits) (state : State L) : Type 0 where
   pub agrees : Agrees state.entries (map standing_of state.slots)
   pub view : FitsView (view_of r state.entries)
-  pub fits : (number : ℕ) (slot : Slot L) → at state.slots number ≡ Some slot → IsFittingWhileLive FitsLocal slot.live
-  pub store : (number : ℕ) (slot : Slot L) → at state.slots number ≡ Some slot → slot.words ≤ limits.store - 4
+  pub fits : (number : ℕ) (slot : Slot L) → at state.slots number ≡ Some slot →
+      IsFittingWhileLive FitsLocal slot.live
+  pub store : (number : ℕ) (slot : Slot L) → at state.slots number ≡ Some slot →
+      slot.words ≤ limits.store - 4
   pub number : length state.slots ≡ limits.slots
   pub few : length state.entries ≤ tally_all state.slots

@@ -1,14 +1,14 @@
 -- The machine, as functions of plain data over the definitions of a system of tasks and the limits.
 use Rattle.std.specs.Prelude.{ℕ, zero, suc, ◌+◌, ◌-◌, ◌*◌, Bool, nat_le, if◌then◌else◌, List, [], ◌∷◌, ◌++◌, length, map, set, Option, Some, None}
 use Rattle.work_stamp.specs.Histories.{under}
-use Rattle.work_stamp.specs.Taskers.{Rules, Begun, view_after, view_of}
+use Rattle.work_stamp.specs.Taskers.{Rules, AfterBegin, view_after, view_of}
 use Rattle.work_stamp.specs.Words.{further_words}
 use Rattle.work_stamp.specs.declared.entry.Entry.{Entry}
 use Rattle.work_stamp.specs.declared.entry.Entry.TheVariants.{Halt}
 use Rattle.work_stamp.specs.declared.stamped.KeyedEntry.{KeyedEntry}
 use Rattle.work_stamp.specs.declared.task.Begin.{Begin}
 use Rattle.work_stamp.specs.declared.task.Begin.TheVariants.{Take, Idle, End}
-use Rattle.stamp_machine.specs.Slots.{at, fresh_slots, ended, key_of, next_slot}
+use Rattle.stamp_machine.specs.Slots.{at, fresh_slots, slot_after_end, key_of, next_slot}
 use Rattle.stamp_machine.specs.declared.history.History.{History}
 use Rattle.stamp_machine.specs.declared.limits.Limits.{Limits}
 use Rattle.stamp_machine.specs.declared.slot.Slot.{Slot}
@@ -33,53 +33,78 @@ pub record Turn (L : Type 0) : Type 0 where
   pub slot : Slot L
 
 -- the slot after a chunk of its task, whose entries and records are pending
-abbrev pub chunked : {V L : Type 0} → Rules V L → Slot L → L → Slot L
-chunked r slot local = record slot {
+abbrev pub slot_after_chunk : {V L : Type 0} → Rules V L → Slot L → L → Slot L
+slot_after_chunk r slot local = record slot {
   clock = slot.clock + (r.chunk local).gives.work;
-  live = Some (record { local = (r.chunk local).local; pending = (r.chunk local).gives.entries; leaves = (r.chunk local).gives.records });
+  live = Some (record {
+    local = (r.chunk local).local;
+    pending =
+        (r.chunk local).gives.entries;
+    leaves = (r.chunk local).gives.records;
+  });
 }
 
 -- what was pending has joined
-abbrev pub joined : {L : Type 0} → Slot L → Live L → Slot L
-joined slot live = record slot { words = slot.words + word_count live.pending; records = slot.records ++ live.leaves }
+abbrev pub slot_after_join : {L : Type 0} → Slot L → Live L → Slot L
+slot_after_join slot live = record slot {
+  words = slot.words + word_count live.pending;
+  records =
+      slot.records ++ live.leaves;
+}
 
 -- the slot waits
-abbrev pub idle : {L : Type 0} → Slot L → L → Slot L
-idle slot local = record slot { clock = slot.clock + 1000; live = Some (record { local = local; pending = []; leaves = [] }) }
+abbrev pub slot_after_idle : {L : Type 0} → Slot L → L → Slot L
+slot_after_idle slot local = record slot
+    { clock = slot.clock + 1000; live = Some (record { local = local; pending = []; leaves = [] }) }
 
 -- a task is taken: its entries join where they fit, and else a Halt joins and the slot is over
-abbrev pub taken : {V L : Type 0} → Rules V L → Limits → Slot L → List Entry → List Entry → L → Turn L
-taken r limits slot pending es local =
+abbrev pub turn_of_take : {V L : Type 0} → Rules V L → Limits → Slot L → List Entry → List Entry →
+    L → Turn L
+turn_of_take r limits slot pending es local =
     if fits limits slot.words es
-    then record { entries = pending ++ es; slot = chunked r (record slot { words = slot.words + word_count es }) local }
-    else record { entries = pending ++ Halt ∷ []; slot = ended slot }
+    then record {
+      entries = pending ++ es;
+      slot =
+          slot_after_chunk r (record slot { words = slot.words + word_count es }) local;
+    }
+    else record { entries = pending ++ Halt ∷ []; slot = slot_after_end slot }
 
 -- between tasks, by what the slot does next
-abbrev pub beginning : {V L : Type 0} → Rules V L → Limits → Slot L → List Entry → L → Begin → Turn L
-beginning r limits slot pending local End = record { entries = pending; slot = ended slot }
-beginning r limits slot pending local Idle = record { entries = pending; slot = idle slot local }
-beginning r limits slot pending local (Take es) = taken r limits slot pending es local
+abbrev pub turn_of_begin : {V L : Type 0} → Rules V L → Limits → Slot L → List Entry → L → Begin →
+    Turn L
+turn_of_begin r limits slot pending local End =
+    record { entries = pending; slot = slot_after_end slot }
+turn_of_begin r limits slot pending local Idle =
+    record { entries = pending; slot = slot_after_idle slot local }
+turn_of_begin r limits slot pending local (Take es) = turn_of_take r limits slot pending es local
 
 -- the same of what the rules say
-abbrev pub begun : {V L : Type 0} → Rules V L → Limits → Slot L → List Entry → Begun L → Turn L
-begun r limits slot pending b = beginning r limits slot pending b.local b.does
+abbrev pub turn_after_begin : {V L : Type 0} → Rules V L → Limits → Slot L → List Entry →
+    AfterBegin L → Turn L
+turn_after_begin r limits slot pending b = turn_of_begin r limits slot pending b.local b.does
 
 -- what was pending has joined, and the slot begins a task or goes on with one
-abbrev pub going_on : {V L : Type 0} → Rules V L → Limits → ℕ → V → Slot L → Live L → Turn L
-going_on r limits number view slot live =
+abbrev pub turn_after_join : {V L : Type 0} → Rules V L → Limits → ℕ → V → Slot L → Live L → Turn L
+turn_after_join r limits number view slot live =
     if r.at_start live.local
-    then begun r limits (joined slot live) live.pending (r.begin (view_after r view (under (key_of number slot) live.pending)) live.local)
-    else record { entries = live.pending; slot = chunked r (joined slot live) live.local }
+    then turn_after_begin r limits (slot_after_join slot live) live.pending
+    (r.begin (view_after r view (under (key_of number slot) live.pending)) live.local)
+    else record {
+      entries = live.pending;
+      slot =
+          slot_after_chunk r (slot_after_join slot live) live.local;
+    }
 
 -- at the limit of work a slot is over; where what is pending doesn't fit, a Halt joins and the slot is over
-abbrev pub turn_while_live : {V L : Type 0} → Rules V L → Limits → ℕ → V → Slot L → Option (Live L) → Turn L
+abbrev pub turn_while_live : {V L : Type 0} → Rules V L → Limits → ℕ → V → Slot L →
+    Option (Live L) → Turn L
 turn_while_live r limits number view slot None = record { entries = []; slot = slot }
 turn_while_live r limits number view slot (Some live) =
     if nat_le limits.work slot.clock
-    then record { entries = []; slot = ended slot }
+    then record { entries = []; slot = slot_after_end slot }
     else (if fits limits slot.words live.pending
-    then going_on r limits number view slot live
-    else record { entries = Halt ∷ []; slot = ended slot })
+    then turn_after_join r limits number view slot live
+    else record { entries = Halt ∷ []; slot = slot_after_end slot })
 
 -- a move of a slot that sees a view of the history
 abbrev pub turn : {V L : Type 0} → Rules V L → Limits → ℕ → V → Slot L → Turn L
@@ -92,12 +117,17 @@ pub record State (L : Type 0) : Type 0 where
 
 -- the slot's entries join under its key
 abbrev pub after_turn : {L : Type 0} → State L → ℕ → Slot L → Turn L → State L
-after_turn state number slot t = record { entries = state.entries ++ under (key_of number slot) t.entries; slots = set state.slots number t.slot }
+after_turn state number slot t = record {
+  entries =
+      state.entries ++ under (key_of number slot) t.entries;
+  slots = set state.slots number t.slot;
+}
 
 -- a move of the slot at a place
 abbrev pub move_of : {V L : Type 0} → Rules V L → Limits → State L → ℕ → Option (Slot L) → State L
 move_of r limits state number None = state
-move_of r limits state number (Some slot) = after_turn state number slot (turn r limits number (view_of r state.entries) slot)
+move_of r limits state number (Some slot) =
+    after_turn state number slot (turn r limits number (view_of r state.entries) slot)
 
 -- a move of the slot whose turn it is
 abbrev pub move_next : {V L : Type 0} → Rules V L → Limits → State L → Option ℕ → State L
@@ -127,7 +157,12 @@ final r limits = moves r limits (last limits)
 
 -- the entries, and of each slot its records and its clock
 abbrev pub as_history : {L : Type 0} → State L → History
-as_history state = record { entries = state.entries; records = map (λ slot. slot.records) state.slots; ends = map (λ slot. slot.clock) state.slots }
+as_history state = record {
+  entries = state.entries;
+  records =
+      map (λ slot. slot.records) state.slots;
+  ends = map (λ slot. slot.clock) state.slots;
+}
 
 -- the history that the slots leave
 abbrev pub history : {V L : Type 0} → Rules V L → Limits → History

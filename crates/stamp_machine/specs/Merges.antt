@@ -12,22 +12,26 @@ use Rattle.stamp_machine.specs.declared.slot.Live.{Live}
 
 -- what a slot has published below a key of another slot: up to the key's stamp where it is smaller, and else below it
 pub record HasSides (history : List KeyedEntry) (k : Key) (number : ℕ) : Type 0 where
-  pub smaller : number < k.slot → of_slot number (below k history) ≡ log number (k.stamp + 1) history
+  pub smaller : number < k.slot → of_slot number (below k history) ≡
+      log number (k.stamp + 1) history
   pub larger : k.slot < number → of_slot number (below k history) ≡ log number k.stamp history
 
 -- the first entry of a history in order is its slot's first one, and no slot's first one has a lesser key
 pub record HasLeastFirst (e : KeyedEntry) (history : List KeyedEntry) : Type 0 where
   pub own : of_slot e.key.slot (e ∷ history) ≡ e ∷ of_slot e.key.slot history
-  pub least : (number : ℕ) (f : KeyedEntry) (fs : List KeyedEntry) → of_slot number (e ∷ history) ≡ f ∷ fs → IsNotLess f.key e.key
+  pub least : (number : ℕ) (f : KeyedEntry) (fs : List KeyedEntry) →
+      of_slot number (e ∷ history) ≡ f ∷ fs → IsNotLess f.key e.key
 
 -- histories in order with the same entries of each slot are the same
 abbrev pub AreSame : Type 0
-AreSame = (a b : List KeyedEntry) → IsSorted a → IsSorted b → ((number : ℕ) → of_slot number a ≡ of_slot number b) → a ≡ b
+AreSame = (a b : List KeyedEntry) → IsSorted a → IsSorted b →
+    ((number : ℕ) → of_slot number a ≡ of_slot number b) → a ≡ b
 
 -- whether a slot's move reads the history: it lives and is between tasks, and no limit ends it
 abbrev pub reads_while_live : {V L : Type 0} → Rules V L → Limits → ℕ → ℕ → Option (Live L) → Bool
 reads_while_live r limits clock words None = false
-reads_while_live r limits clock words (Some live) = not (nat_le limits.work clock) && (fits limits words live.pending && r.at_start live.local)
+reads_while_live r limits clock words (Some live) = not (nat_le limits.work clock)
+    && (fits limits words live.pending && r.at_start live.local)
 
 -- the same of a slot
 abbrev pub reads : {V L : Type 0} → Rules V L → Limits → Slot L → Bool
@@ -35,4 +39,5 @@ reads r limits slot = reads_while_live r limits slot.clock slot.words slot.live
 
 -- every other move is the same on every view
 abbrev pub AreUnread : {V L : Type 0} → Rules V L → Limits → Type 0
-AreUnread r limits = (number : ℕ) (a b : _) (slot : Slot _) → reads r limits slot ≡ false → turn r limits number a slot ≡ turn r limits number b slot
+AreUnread r limits = (number : ℕ) (a b : _) (slot : Slot _) → reads r limits slot ≡ false →
+    turn r limits number a slot ≡ turn r limits number b slot

@@ -14,7 +14,13 @@ at (x ∷ xs) (suc place) = at xs place
 
 -- a slot before its first move, between tasks
 abbrev pub fresh_slot : {V L : Type 0} → Rules V L → ℕ → Slot L
-fresh_slot r number = record { clock = 0; words = 0; records = []; live = Some (record { local = r.fresh_local number; pending = []; leaves = [] }) }
+fresh_slot r number = record {
+  clock = 0;
+  words = 0;
+  records = [];
+  live =
+      Some (record { local = r.fresh_local number; pending = []; leaves = [] });
+}
 
 -- so many fresh slots, from a number on
 abbrev pub fresh_slots : {V L : Type 0} → Rules V L → ℕ → ℕ → List (Slot L)
@@ -22,8 +28,8 @@ fresh_slots r first zero = []
 fresh_slots r first (suc more) = fresh_slot r first ∷ fresh_slots r (suc first) more
 
 -- the slot is over, and what is pending is dropped
-abbrev pub ended : {L : Type 0} → Slot L → Slot L
-ended slot = record slot { live = None }
+abbrev pub slot_after_end : {L : Type 0} → Slot L → Slot L
+slot_after_end slot = record slot { live = None }
 
 -- the key of a slot's next move
 abbrev pub key_of : {L : Type 0} → ℕ → Slot L → Key
@@ -52,7 +58,8 @@ abbrev pub sooner : Option ℕ → List (Option ℕ) → Option ℕ → Option �
 sooner None clocks None = None
 sooner None clocks (Some place) = Some (suc place)
 sooner (Some clock) clocks None = Some 0
-sooner (Some clock) clocks (Some place) = if nat_le clock (number_at clocks place) then Some 0 else Some (suc place)
+sooner (Some clock) clocks (Some place) = if nat_le clock (number_at clocks place) then Some 0
+    else Some (suc place)
 
 -- whether a number comes before the one at a later place
 abbrev pub is_sooner : Option ℕ → List (Option ℕ) → Option ℕ → Bool
@@ -76,7 +83,8 @@ pub record IsLiveAt {L : Type 0} (slots : List (Slot L)) (place : ℕ) : Type 0 
 
 -- whether a slot lives and comes before a later one
 abbrev pub comes_first : {L : Type 0} → List (Slot L) → ℕ → Option ℕ → Bool
-comes_first slots number later = is_sooner (get_or (map live_clock slots) number None) (map live_clock slots) later
+comes_first slots number later = is_sooner (get_or (map live_clock slots) number None)
+    (map live_clock slots) later
 
 -- a slot as the laws of tasks see it
 abbrev pub standing_while_live : {L : Type 0} → Option (Live L) → Option (Standing L)

@@ -16,7 +16,8 @@ use work_stamp::Tasker;
 /// entry may follow those before it, and there are fewer than 2^31 entries, none of a slot past the last.
 pub fn moves_keep_the_laws<T: Tasker>(tasker: &T, limits: &Limits)
     requires { AreLimits limits.now }
-    ensures { (n : ℕ) → IsLawfulAfter (T.rules tasker.now) (T.fits_view tasker.now) (T.fits_local tasker.now) (T.may_follow tasker.now) (T.agrees tasker.now) limits.now n }
+    ensures { (n : ℕ) → IsLawfulAfter (T.rules tasker.now) (T.fits_view tasker.now)
+        (T.fits_local tasker.now) (T.may_follow tasker.now) (T.agrees tasker.now) limits.now n }
 {}
 
 /// A law of the machine, with nothing to run: the slot that moves has a greater clock afterwards, or is over.
@@ -118,7 +119,8 @@ pub fn keys_part_by_slots()
 
 /// A law of histories, with nothing to run: in one that is sorted the first entry has the least key of all slots' first ones.
 pub fn least_key_is_first()
-    ensures { (entry : KeyedEntry) (rest : Seq KeyedEntry) → IsSorted (entry ∷ rest) → HasLeastFirst entry rest }
+    ensures { (entry : KeyedEntry) (rest : Seq KeyedEntry) → IsSorted (entry ∷ rest) →
+        HasLeastFirst entry rest }
 {}
 
 /// A law of histories, with nothing to run: two that are sorted and have the same entries of each slot are the same.

@@ -4,21 +4,21 @@ use work_stamp::KeyedEntry;
 
 /// The history so far with its view.
 #[derive(Drop)]
-pub struct Seen<V> {
+pub struct HistoryView<V> {
     pub entries: List<KeyedEntry>,
     pub view: V,
 }
 
 /// What a slot's move leaves.
 #[derive(Drop)]
-pub struct Moved<V, L> {
-    pub seen: Seen<V>,
+pub struct AfterMove<V, L> {
+    pub so_far: HistoryView<V>,
     pub slot: Slot<L>,
 }
 
 /// The history so far with its view, and the slots.
 #[derive(Drop)]
 pub struct Play<V, L> {
-    pub seen: Seen<V>,
+    pub so_far: HistoryView<V>,
     pub slots: List<Slot<L>>,
 }

@@ -1,11 +1,11 @@
 ghost use Rattle.std.specs.Prelude.{◌≡◌, ◌<◌, Some, IfOk};
 ghost use Rattle.stamp_machine.specs.Limits.{AreLimits};
 ghost use Rattle.stamp_machine.specs.Machine.{first, history as history_of};
-ghost use Rattle.stamp_machine.specs.Plays.{PlaysMachine, left_by, moves_left_all, play_of};
+ghost use Rattle.stamp_machine.specs.Plays.{PlaysMachine, history_of_play, moves_left_all, play_of};
 ghost use Rattle.stamp_machine.specs.Slots.{next_slot as next_slot_of};
 
 use crate::next::next_slot;
-use crate::play::{Play, Seen};
+use crate::play::{HistoryView, Play};
 use crate::turn::turn;
 use crate::{History, Limits, Live, Slot};
 use ip_core::{List, OutOfMemory};
@@ -24,7 +24,7 @@ pub fn run_alone<T: Tasker>(
 {
     let mut play = start(alloc, tasker, limits)?;
     while let Some(number) = next_slot(play.slots.as_slice()) {
-        play = moved(alloc, tasker, limits, play, number)?;
+        play = play_after_move(alloc, tasker, limits, play, number)?;
     }
     leave(alloc, play)
 }
@@ -36,7 +36,8 @@ fn start<T: Tasker>(
     limits: &Limits,
 ) -> Result<Play<T::View, T::Local>, OutOfMemory>
     requires { AreLimits limits.now }
-    ensures { IfOk result (λ play. play ≡ play_of (T.rules tasker.now) (first (T.rules tasker.now) limits.now)) }
+    ensures { IfOk result (λ play. play ≡
+        play_of (T.rules tasker.now) (first (T.rules tasker.now) limits.now)) }
 {
     let view = tasker.fresh_view(alloc)?;
     let mut slots = List::new(alloc);
@@ -53,15 +54,15 @@ fn start<T: Tasker>(
             }),
         })?;
     }
-    let seen = Seen {
+    let so_far = HistoryView {
         entries: List::new(alloc),
         view,
     };
-    Ok(Play { seen, slots })
+    Ok(Play { so_far, slots })
 }
 
 /// One move of the machine, by the slot whose turn it is.
-fn moved<T: Tasker>(
+fn play_after_move<T: Tasker>(
     alloc: Global,
     tasker: &T,
     limits: &Limits,
@@ -72,24 +73,25 @@ fn moved<T: Tasker>(
     requires plays { PlaysMachine (T.rules tasker.now) limits.now play }
     requires next { next_slot_of play.slots ≡ Some number }
     ensures plays { IfOk result (λ after. PlaysMachine (T.rules tasker.now) limits.now after) }
-    ensures fewer { IfOk result (λ after. moves_left_all limits.now after.slots < moves_left_all limits.now play.slots) }
+    ensures fewer { IfOk result (λ after.
+        moves_left_all limits.now after.slots < moves_left_all limits.now play.slots) }
 {
-    let Play { seen, slots } = play;
+    let Play { so_far, slots } = play;
     let mut slots = slots.into_vec();
     let slot = slots.remove(number);
-    let moved = turn(alloc, tasker, limits, number as u32, seen, slot)?;
-    slots.insert(number, moved.slot)?;
+    let after = turn(alloc, tasker, limits, number as u32, so_far, slot)?;
+    slots.insert(number, after.slot)?;
     Ok(Play {
-        seen: moved.seen,
+        so_far: after.so_far,
         slots: List::of(slots),
     })
 }
 
 /// What the slots leave.
 fn leave<V: Drop, L: Drop>(alloc: Global, play: Play<V, L>) -> Result<History, OutOfMemory>
-    ensures { IfOk result (λ history. history ≡ left_by play) }
+    ensures { IfOk result (λ history. history ≡ history_of_play play) }
 {
-    let Play { seen, slots } = play;
+    let Play { so_far, slots } = play;
     let mut records = List::new(alloc);
     let mut ends = List::new(alloc);
     for slot in slots.into_vec() {
@@ -97,7 +99,7 @@ fn leave<V: Drop, L: Drop>(alloc: Global, play: Play<V, L>) -> Result<History, O
         records.push(slot.records)?;
     }
     Ok(History {
-        entries: seen.entries,
+        entries: so_far.entries,
         records,
         ends,
     })

@@ -1,6 +1,6 @@
 ghost use Rattle.std.specs.Prelude.{◌≡◌, IfOk};
 ghost use Rattle.stamp_machine.specs.Limits.{AreLimits};
-ghost use Rattle.stamp_machine.specs.Relay.{found as found_of, leaf as leaf_of, one_more as one_more_of};
+ghost use Rattle.stamp_machine.specs.Relay.{found_entry as found_of, leaf as leaf_of, one_more as one_more_of};
 
 use crate::{
     History, Limits, clocks_rise, ends_are_known, history_is_sorted, keys_part_by_slots, keys_rise,

@@ -2,11 +2,11 @@ ghost use Rattle.std.specs.Prelude.{◌≡◌, ◌≤◌, ◌<◌, ◌+◌, ◌-
 ghost use Rattle.work_stamp.specs.Taskers.{HaveWords};
 ghost use Rattle.work_stamp.specs.declared.entry.Entry.TheVariants.{Halt};
 ghost use Rattle.stamp_machine.specs.Limits.{AreLimits};
-ghost use Rattle.stamp_machine.specs.Machine.{begun, chunked, going_on, idle as idle_of, taken, turn as turn_of, word_count};
-ghost use Rattle.stamp_machine.specs.Plays.{CanGrow, CanTurn, CanWork, grown, moved, words_with as words_with_of};
-ghost use Rattle.stamp_machine.specs.Slots.{ended as ended_of, key_of};
+ghost use Rattle.stamp_machine.specs.Machine.{slot_after_chunk, slot_after_idle, turn as turn_of, turn_after_begin, turn_after_join, turn_of_take, word_count};
+ghost use Rattle.stamp_machine.specs.Plays.{CanGrow, CanTurn, CanWork, after_move, with_entries, words_with as words_with_of};
+ghost use Rattle.stamp_machine.specs.Slots.{key_of, slot_after_end};
 
-use crate::play::{Moved, Seen};
+use crate::play::{AfterMove, HistoryView};
 use crate::{Limits, Live, Slot};
 use ip_core::{List, OutOfMemory, Record};
 use std::alloc::Global;
@@ -18,12 +18,15 @@ pub fn turn<T: Tasker>(
     tasker: &T,
     limits: &Limits,
     number: u32,
-    seen: Seen<T::View>,
+    so_far: HistoryView<T::View>,
     slot: Slot<T::Local>,
-) -> Result<Moved<T::View, T::Local>, OutOfMemory>
+) -> Result<AfterMove<T::View, T::Local>, OutOfMemory>
     requires ranges { AreLimits limits.now }
-    requires can { CanTurn (T.rules tasker.now) (T.fits_view tasker.now) (T.fits_local tasker.now) (T.may_follow tasker.now) limits.now seen number slot }
-    ensures { IfOk result (λ after. after ≡ moved (T.rules tasker.now) seen (key_of number slot) (turn_of (T.rules tasker.now) limits.now number seen.view slot)) }
+    requires can { CanTurn (T.rules tasker.now) (T.fits_view tasker.now) (T.fits_local tasker.now)
+        (T.may_follow tasker.now) limits.now so_far number slot }
+    ensures { IfOk result (λ after. after ≡
+        after_move (T.rules tasker.now) so_far (key_of number slot)
+        (turn_of (T.rules tasker.now) limits.now number so_far.view slot)) }
 {
     let key = Key {
         stamp: slot.clock,
@@ -42,14 +45,14 @@ pub fn turn<T: Tasker>(
         live: None,
     };
     let Some(live) = live else {
-        return Ok(Moved { seen, slot: over });
+        return Ok(AfterMove { so_far, slot: over });
     };
     if limits.work <= clock {
-        return Ok(Moved { seen, slot: over });
+        return Ok(AfterMove { so_far, slot: over });
     }
     match words_with(limits, words, live.pending.as_slice()) {
-        None => halt(alloc, tasker, seen, key, over),
-        Some(words) => go_on(alloc, tasker, limits, seen, key, over, words, live),
+        None => halt(alloc, tasker, so_far, key, over),
+        Some(words) => go_on(alloc, tasker, limits, so_far, key, over, words, live),
     }
 }
 
@@ -58,20 +61,24 @@ fn go_on<T: Tasker>(
     alloc: Global,
     tasker: &T,
     limits: &Limits,
-    seen: Seen<T::View>,
+    so_far: HistoryView<T::View>,
     key: Key,
     over: Slot<T::Local>,
     words: u64,
     live: Live<T::Local>,
-) -> Result<Moved<T::View, T::Local>, OutOfMemory>
+) -> Result<AfterMove<T::View, T::Local>, OutOfMemory>
     requires ranges { AreLimits limits.now }
     requires key { key ≡ key_of key.slot over }
     requires words { words ≡ over.words + word_count live.pending }
     requires store { words ≤ limits.now.store - 4 }
     requires early { over.clock < 10 ^ 12 }
     requires fits { T.fits_local tasker.now live.local }
-    requires grow { CanGrow (T.rules tasker.now) (T.fits_view tasker.now) (T.may_follow tasker.now) seen key (going_on (T.rules tasker.now) limits.now key.slot seen.view over live).entries }
-    ensures { IfOk result (λ after. after ≡ moved (T.rules tasker.now) seen key (going_on (T.rules tasker.now) limits.now key.slot seen.view over live)) }
+    requires grow { CanGrow (T.rules tasker.now) (T.fits_view tasker.now)
+        (T.may_follow tasker.now) so_far key
+        (turn_after_join (T.rules tasker.now) limits.now key.slot so_far.view over live).entries }
+    ensures { IfOk result (λ after. after ≡
+        after_move (T.rules tasker.now) so_far key
+        (turn_after_join (T.rules tasker.now) limits.now key.slot so_far.view over live)) }
 {
     let Live {
         local,
@@ -81,19 +88,19 @@ fn go_on<T: Tasker>(
     let slot = Slot {
         clock: over.clock,
         words,
-        records: appended(over.records, leaves)?,
+        records: with_records(over.records, leaves)?,
         live: None,
     };
-    let seen = join(alloc, tasker, seen, key, pending)?;
+    let so_far = join(alloc, tasker, so_far, key, pending)?;
     if tasker.at_start(&local) {
-        return begin(alloc, tasker, limits, seen, key, slot, local);
+        return begin(alloc, tasker, limits, so_far, key, slot, local);
     }
     let slot = chunk(alloc, tasker, limits, slot, local)?;
-    Ok(Moved { seen, slot })
+    Ok(AfterMove { so_far, slot })
 }
 
 /// Records with others behind them.
-fn appended(records: List<Record>, leaves: List<Record>) -> Result<List<Record>, OutOfMemory>
+fn with_records(records: List<Record>, leaves: List<Record>) -> Result<List<Record>, OutOfMemory>
     ensures { IfOk result (λ all. all ≡ records ++ leaves) }
 {
     let mut records = records;
@@ -108,33 +115,40 @@ fn begin<T: Tasker>(
     alloc: Global,
     tasker: &T,
     limits: &Limits,
-    seen: Seen<T::View>,
+    so_far: HistoryView<T::View>,
     key: Key,
     slot: Slot<T::Local>,
     local: T::Local,
-) -> Result<Moved<T::View, T::Local>, OutOfMemory>
+) -> Result<AfterMove<T::View, T::Local>, OutOfMemory>
     requires ranges { AreLimits limits.now }
-    requires can { CanWork (T.fits_local tasker.now) (T.rules tasker.now).at_start true limits.now slot local }
-    requires grow { CanGrow (T.rules tasker.now) (T.fits_view tasker.now) (T.may_follow tasker.now) seen key (begun (T.rules tasker.now) limits.now slot [] ((T.rules tasker.now).begin seen.view local)).entries }
-    ensures { IfOk result (λ after. after ≡ moved (T.rules tasker.now) seen key (begun (T.rules tasker.now) limits.now slot [] ((T.rules tasker.now).begin seen.view local))) }
+    requires can { CanWork (T.fits_local tasker.now)
+        (T.rules tasker.now).at_start true limits.now slot local }
+    requires grow { CanGrow (T.rules tasker.now) (T.fits_view tasker.now)
+        (T.may_follow tasker.now) so_far key
+        (turn_after_begin (T.rules tasker.now) limits.now slot []
+        ((T.rules tasker.now).begin so_far.view local)).entries }
+    ensures { IfOk result (λ after. after ≡
+        after_move (T.rules tasker.now) so_far key
+        (turn_after_begin (T.rules tasker.now) limits.now slot []
+        ((T.rules tasker.now).begin so_far.view local))) }
 {
     let mut local = local;
-    match tasker.begin(alloc, &seen.view, &mut local)? {
-        Begin::End => Ok(Moved {
-            seen,
-            slot: ended(slot),
+    match tasker.begin(alloc, &so_far.view, &mut local)? {
+        Begin::End => Ok(AfterMove {
+            so_far,
+            slot: over(slot),
         }),
         Begin::Idle => {
             let slot = idle(alloc, slot, local);
-            Ok(Moved { seen, slot })
+            Ok(AfterMove { so_far, slot })
         }
-        Begin::Take(entries) => take(alloc, tasker, limits, seen, key, slot, entries, local),
+        Begin::Take(entries) => take(alloc, tasker, limits, so_far, key, slot, entries, local),
     }
 }
 
 /// The slot is over, and what is pending is dropped.
-fn ended<L: Drop>(slot: Slot<L>) -> Slot<L>
-    ensures { result ≡ ended_of slot }
+fn over<L: Drop>(slot: Slot<L>) -> Slot<L>
+    ensures { result ≡ slot_after_end slot }
 {
     Slot {
         clock: slot.clock,
@@ -147,7 +161,7 @@ fn ended<L: Drop>(slot: Slot<L>) -> Slot<L>
 /// The slot waits, which counts as work of 1,000.
 fn idle<L: Drop>(alloc: Global, slot: Slot<L>, local: L) -> Slot<L>
     requires { slot.clock < 10 ^ 12 }
-    ensures { result ≡ idle_of slot local }
+    ensures { result ≡ slot_after_idle slot local }
 {
     Slot {
         clock: slot.clock + 1_000,
@@ -166,20 +180,25 @@ fn take<T: Tasker>(
     alloc: Global,
     tasker: &T,
     limits: &Limits,
-    seen: Seen<T::View>,
+    so_far: HistoryView<T::View>,
     key: Key,
     slot: Slot<T::Local>,
     entries: List<Entry>,
     local: T::Local,
-) -> Result<Moved<T::View, T::Local>, OutOfMemory>
+) -> Result<AfterMove<T::View, T::Local>, OutOfMemory>
     requires ranges { AreLimits limits.now }
-    requires can { CanWork (T.fits_local tasker.now) (T.rules tasker.now).at_start false limits.now slot local }
+    requires can { CanWork (T.fits_local tasker.now)
+        (T.rules tasker.now).at_start false limits.now slot local }
     requires words { HaveWords entries }
-    requires grow { CanGrow (T.rules tasker.now) (T.fits_view tasker.now) (T.may_follow tasker.now) seen key (taken (T.rules tasker.now) limits.now slot [] entries local).entries }
-    ensures { IfOk result (λ after. after ≡ moved (T.rules tasker.now) seen key (taken (T.rules tasker.now) limits.now slot [] entries local)) }
+    requires grow { CanGrow (T.rules tasker.now) (T.fits_view tasker.now)
+        (T.may_follow tasker.now) so_far key
+        (turn_of_take (T.rules tasker.now) limits.now slot [] entries local).entries }
+    ensures { IfOk result (λ after. after ≡
+        after_move (T.rules tasker.now) so_far key
+        (turn_of_take (T.rules tasker.now) limits.now slot [] entries local)) }
 {
     let Some(words) = words_with(limits, slot.words, entries.as_slice()) else {
-        return halt(alloc, tasker, seen, key, ended(slot));
+        return halt(alloc, tasker, so_far, key, over(slot));
     };
     let slot = Slot {
         clock: slot.clock,
@@ -187,9 +206,9 @@ fn take<T: Tasker>(
         records: slot.records,
         live: None,
     };
-    let seen = join(alloc, tasker, seen, key, entries)?;
+    let so_far = join(alloc, tasker, so_far, key, entries)?;
     let slot = chunk(alloc, tasker, limits, slot, local)?;
-    Ok(Moved { seen, slot })
+    Ok(AfterMove { so_far, slot })
 }
 
 /// The slot after a chunk of its task, whose entries and records are pending.
@@ -200,8 +219,9 @@ fn chunk<T: Tasker>(
     slot: Slot<T::Local>,
     local: T::Local,
 ) -> Result<Slot<T::Local>, OutOfMemory>
-    requires { CanWork (T.fits_local tasker.now) (T.rules tasker.now).at_start false limits.now slot local }
-    ensures { IfOk result (λ after. after ≡ chunked (T.rules tasker.now) slot local) }
+    requires { CanWork (T.fits_local tasker.now)
+        (T.rules tasker.now).at_start false limits.now slot local }
+    ensures { IfOk result (λ after. after ≡ slot_after_chunk (T.rules tasker.now) slot local) }
 {
     let mut local = local;
     let mut pulse = NoPulse::new();
@@ -222,17 +242,19 @@ fn chunk<T: Tasker>(
 fn halt<T: Tasker>(
     alloc: Global,
     tasker: &T,
-    seen: Seen<T::View>,
+    so_far: HistoryView<T::View>,
     key: Key,
     over: Slot<T::Local>,
-) -> Result<Moved<T::View, T::Local>, OutOfMemory>
-    requires { CanGrow (T.rules tasker.now) (T.fits_view tasker.now) (T.may_follow tasker.now) seen key (Halt ∷ []) }
-    ensures { IfOk result (λ after. after ≡ moved (T.rules tasker.now) seen key (record { entries = Halt ∷ []; slot = over })) }
+) -> Result<AfterMove<T::View, T::Local>, OutOfMemory>
+    requires { CanGrow (T.rules tasker.now) (T.fits_view tasker.now)
+        (T.may_follow tasker.now) so_far key (Halt ∷ []) }
+    ensures { IfOk result (λ after. after ≡
+        after_move (T.rules tasker.now) so_far key (record { entries = Halt ∷ []; slot = over })) }
 {
     let mut batch = List::new(alloc);
     batch.push(Entry::Halt)?;
-    let seen = join(alloc, tasker, seen, key, batch)?;
-    Ok(Moved { seen, slot: over })
+    let so_far = join(alloc, tasker, so_far, key, batch)?;
+    Ok(AfterMove { so_far, slot: over })
 }
 
 /// A slot's count of words with these entries, none where they don't fit into its store. Four words stay free.
@@ -257,20 +279,21 @@ fn words_with(limits: &Limits, words: u64, entries: &[Entry]) -> Option<u64>
 fn join<T: Tasker>(
     alloc: Global,
     tasker: &T,
-    seen: Seen<T::View>,
+    so_far: HistoryView<T::View>,
     key: Key,
     batch: List<Entry>,
-) -> Result<Seen<T::View>, OutOfMemory>
-    requires { CanGrow (T.rules tasker.now) (T.fits_view tasker.now) (T.may_follow tasker.now) seen key batch }
-    ensures { IfOk result (λ after. after ≡ grown (T.rules tasker.now) seen key batch) }
+) -> Result<HistoryView<T::View>, OutOfMemory>
+    requires { CanGrow (T.rules tasker.now) (T.fits_view tasker.now)
+        (T.may_follow tasker.now) so_far key batch }
+    ensures { IfOk result (λ after. after ≡ with_entries (T.rules tasker.now) so_far key batch) }
 {
-    let Seen {
+    let HistoryView {
         mut entries,
         mut view,
-    } = seen;
+    } = so_far;
     for entry in batch.into_vec() {
         tasker.absorb(alloc, &mut view, key, &entry)?;
         entries.push(KeyedEntry { key, entry })?;
     }
-    Ok(Seen { entries, view })
+    Ok(HistoryView { entries, view })
 }

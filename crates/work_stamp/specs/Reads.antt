@@ -54,13 +54,15 @@ gomory_of divisor rest =
 
 -- columns of a row
 abbrev pub cover_of : ℕ → List ℕ → Result Entry WordsError
-cover_of word cols = if is_number (word / 2) && list_all is_number cols then Ok (entry.Cut (Cover (row_of word) cols)) else Err Value
+cover_of word cols = if is_number (word / 2) && list_all is_number cols
+    then Ok (entry.Cut (Cover (row_of word) cols)) else Err Value
 
 -- a cut, by the number of its form
 abbrev pub cut_of : List ℕ → Result Entry WordsError
 cut_of [] = Err Length
 cut_of (form ∷ []) = if nat_lt 1 form then Err Value else Err Length
-cut_of (form ∷ word ∷ rest) = if nat_lt 1 form then Err Value else (if nat_eq form 0 then gomory_of word rest else cover_of word rest)
+cut_of (form ∷ word ∷ rest) = if nat_lt 1 form then Err Value
+    else (if nat_eq form 0 then gomory_of word rest else cover_of word rest)
 
 -- a split of a node at a column
 abbrev pub split_of : ℕ → ℕ → ℕ → ℕ → ℕ → ℕ → Result Entry WordsError
@@ -124,19 +126,22 @@ kind_entry (Err e) further = Err e
 
 -- what was read, with its stamp and its number of words
 abbrev pub read_with : ℕ → ℕ → Result Entry WordsError → Result WordRead WordsError
-read_with count stamp (Ok e) = Ok (record { item = record { stamp = stamp; entry = e }; used = count })
+read_with count stamp (Ok e) = Ok (record
+    { item = record { stamp = stamp; entry = e }; used = count })
 read_with count stamp (Err e) = Err e
 
 -- an entry of so many words, from the words behind the first one
 abbrev pub counted : ℕ → List ℕ → Result WordRead WordsError
 counted count [] = Err Short
 counted count (kind ∷ []) = Err Short
-counted count (kind ∷ stamp ∷ rest) = read_with count stamp (kind_entry (kind_of kind) (take (count - 3) rest))
+counted count (kind ∷ stamp ∷ rest) = read_with count stamp
+    (kind_entry (kind_of kind) (take (count - 3) rest))
 
 -- the entry that words begin with: they are not to end within it, and it has three words or more
 abbrev pub read : List ℕ → Result WordRead WordsError
 read [] = Err Short
-read (count ∷ rest) = if nat_lt (suc (length rest)) count then Err Short else (if nat_lt count 3 then Err Length else counted count rest)
+read (count ∷ rest) = if nat_lt (suc (length rest)) count then Err Short
+    else (if nat_lt count 3 then Err Length else counted count rest)
 
 -- a refusal is that of the definition, or want of memory
 abbrev pub IsRefusalOf : {A : Type 0} → WordsError → Result A WordsError → Type 0

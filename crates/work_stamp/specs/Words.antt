@@ -55,10 +55,12 @@ further_words (HeurStart node) = node ∷ []
 further_words Done = []
 further_words (Found value point) = signed_word value ∷ signed_words point
 further_words (Cut derivation) = derivation_words derivation
-further_words (Split node col at first keep bound) = node ∷ col ∷ signed_word at ∷ first ∷ keep ∷ signed_word bound ∷ []
+further_words (Split node col at first keep bound) =
+    node ∷ col ∷ signed_word at ∷ first ∷ keep ∷ signed_word bound ∷ []
 further_words (Closed node) = node ∷ []
 further_words Halt = []
 
 -- the words of an entry with its stamp
 abbrev pub words : Stamped → List ℕ
-words item = (3 + length (further_words item.entry)) ∷ kind_word item.entry ∷ item.stamp ∷ further_words item.entry
+words item = (3 + length (further_words item.entry)) ∷ kind_word item.entry ∷ item.stamp ∷
+    further_words item.entry

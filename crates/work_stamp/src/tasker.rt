@@ -67,8 +67,10 @@ pub trait Tasker {
         requires fits_view { fits_view self.now view.now }
         requires fits_local { fits_local self.now local.old }
         requires start { (rules self.now).at_start local.old ≡ true }
-        ensures does { IfOk result (λ does. does ≡ ((rules self.now).begin view.now local.old).does) }
-        ensures local { OnOk result (local.new ≡ ((rules self.now).begin view.now local.old).local) };
+        ensures does { IfOk result (λ does. does ≡ ((rules self.now).begin view.now local.old).does)
+            }
+        ensures local { OnOk result (local.new ≡ ((rules self.now).begin view.now local.old).local)
+            };
 
     /// Works on a part of the slot's task. The pulse is told of work as it goes on, of no more in all than the chunk counts.
     fn chunk<P: Pulse>(
@@ -85,7 +87,8 @@ pub trait Tasker {
         ensures local { OnOk result (local.new ≡ ((rules self.now).chunk local.old).local) }
         ensures ready { P.IsReady pulse.new }
         ensures rest { P.rest pulse.new ≡ P.rest pulse.old }
-        ensures spent { P.allowance pulse.old ≤ P.allowance pulse.new + ((rules self.now).chunk local.old).gives.work };
+        ensures spent { P.allowance pulse.old ≤ P.allowance pulse.new +
+            ((rules self.now).chunk local.old).gives.work };
 
     /// The laws of the definitions.
     ghost lawful: { (tasker : Self) →

@@ -8,7 +8,7 @@ use Rattle.ip_core.specs.Models.{IsModel}
 use Rattle.ip_core.specs.declared.model.ModelParts.{ModelParts}
 use Rattle.search_truth.specs.Search.{Done as NoSteps}
 use Rattle.stamp_machine.proofs.Follows.{view_after-append}
-use Rattle.work_stamp.specs.Histories.{FollowInTurn, keyed, under}
+use Rattle.work_stamp.specs.Histories.{FollowInTurn, keyed_entry, under}
 use Rattle.work_stamp.specs.Taskers.{Standing, fresh_standings, standing}
 use Rattle.work_stamp.specs.declared.entry.Entry.{Entry}
 use Rattle.work_stamp.specs.declared.entry.Entry.TheVariants.{Start, CutStart, HeurStart, Done, Found, Cut, Split, Closed, Halt}
@@ -38,19 +38,19 @@ use Rattle.plain_tasks.specs.Lemmas.Starting.{claim_on, joined_halt, joined_star
 
 -- one more entry
 
-pub seen_next : (m : ModelParts) (history : List KeyedEntry) (k : Key) (e : Entry) → seen_of m (history ++ keyed k e ∷ []) ≡ seen (seen_of m history) e
-seen_next m history k e = view_after-append (rules m) (fresh_view m) history (keyed k e ∷ [])
+pub seen_next : (m : ModelParts) (history : List KeyedEntry) (k : Key) (e : Entry) → seen_of m (history ++ keyed_entry k e ∷ []) ≡ seen (seen_of m history) e
+seen_next m history k e = view_after-append (rules m) (fresh_view m) history (keyed_entry k e ∷ [])
 
-grows_by : (history : List KeyedEntry) (k : Key) (e : Entry) → Grows (is_known history) (is_known (history ++ keyed k e ∷ [])) (length history) (length (history ++ keyed k e ∷ [])) e
-grows_by history k e = record { names = known_next history (keyed k e); counted = omega (arith, length-append history (keyed k e ∷ [])) }
+grows_by : (history : List KeyedEntry) (k : Key) (e : Entry) → Grows (is_known history) (is_known (history ++ keyed_entry k e ∷ [])) (length history) (length (history ++ keyed_entry k e ∷ [])) e
+grows_by history k e = record { names = known_next history (keyed_entry k e); counted = omega (arith, length-append history (keyed_entry k e ∷ [])) }
 
 -- the history meets the claims
 abbrev MeetsAll : ModelParts → List KeyedEntry → (ℕ → Claim) → Type 0
 MeetsAll m history claims = Meets m (seen_of m history) (is_known history) (length history) claims
 
 in_view : (m : ModelParts) (history : List KeyedEntry) (k : Key) (e : Entry) (claims : ℕ → Claim)
-    → Meets m (seen (seen_of m history) e) (is_known (history ++ keyed k e ∷ [])) (length (history ++ keyed k e ∷ [])) claims → MeetsAll m (history ++ keyed k e ∷ []) claims
-in_view m history k e claims meets = subst (λ (v : View). Meets m v (is_known (history ++ keyed k e ∷ [])) (length (history ++ keyed k e ∷ [])) claims) (sym (seen_next m history k e)) meets
+    → Meets m (seen (seen_of m history) e) (is_known (history ++ keyed_entry k e ∷ [])) (length (history ++ keyed_entry k e ∷ [])) claims → MeetsAll m (history ++ keyed_entry k e ∷ []) claims
+in_view m history k e claims meets = subst (λ (v : View). Meets m v (is_known (history ++ keyed_entry k e ∷ [])) (length (history ++ keyed_entry k e ∷ [])) claims) (sym (seen_next m history k e)) meets
 
 split_room : (m : ModelParts) (slot : ℕ) (c : Claim) (node col : ℕ) (at : ℤ) (first keep : ℕ) (bound : ℤ) → IsSplitNow m slot c node col at first keep → HasRoom (Split node col at first keep bound)
 split_room m slot c node col at first keep bound now =
@@ -60,22 +60,22 @@ split_room m slot c node col at first keep bound now =
 
 -- an entry that is due joins
 due_joins : (m : ModelParts) (history : List KeyedEntry) (k : Key) (slot : ℕ) (claims : ℕ → Claim) (e : Entry) → IsModel m → length history < 2 ^ 31 → MeetsAll m history claims → IsDue m slot (claims slot) e
-    → MeetsAll m (history ++ keyed k e ∷ []) (claims_with claims slot (claim_after (claims slot) e))
+    → MeetsAll m (history ++ keyed_entry k e ∷ []) (claims_with claims slot (claim_after (claims slot) e))
 due_joins m history k slot claims (Start node) valid short meets due = absurd due
 due_joins m history k slot claims CutStart valid short meets due = absurd due
 due_joins m history k slot claims (HeurStart node) valid short meets due = absurd due
 due_joins m history k slot claims Done valid short meets due =
-    in_view m history k Done (claims_with claims slot (claim_after (claims slot) Done)) (joined_done m (seen_of m history) (is_known history) (is_known (history ++ keyed k Done ∷ [])) (length history) (length (history ++ keyed k Done ∷ [])) slot claims valid meets (grows_by history k Done))
+    in_view m history k Done (claims_with claims slot (claim_after (claims slot) Done)) (joined_done m (seen_of m history) (is_known history) (is_known (history ++ keyed_entry k Done ∷ [])) (length history) (length (history ++ keyed_entry k Done ∷ [])) slot claims valid meets (grows_by history k Done))
 due_joins m history k slot claims (Found value point) valid short meets due =
     let e = Found value point in
-    in_view m history k e (claims_with claims slot (claim_after (claims slot) e)) (joined_found m (seen_of m history) (is_known history) (is_known (history ++ keyed k e ∷ [])) (length history) (length (history ++ keyed k e ∷ [])) slot claims valid meets value point (grows_by history k e) due)
+    in_view m history k e (claims_with claims slot (claim_after (claims slot) e)) (joined_found m (seen_of m history) (is_known history) (is_known (history ++ keyed_entry k e ∷ [])) (length history) (length (history ++ keyed_entry k e ∷ [])) slot claims valid meets value point (grows_by history k e) due)
 due_joins m history k slot claims (Cut derivation) valid short meets due = absurd due
 due_joins m history k slot claims (Split node col at first keep bound) valid short meets due =
     let e = Split node col at first keep bound in
-    in_view m history k e (claims_with claims slot (claim_after (claims slot) e)) (joined_split m (seen_of m history) (is_known history) (is_known (history ++ keyed k e ∷ [])) (length history) (length (history ++ keyed k e ∷ [])) slot claims valid meets node col at first keep bound (grows_by history k e) short due (split_room m slot (claims slot) node col at first keep bound due))
+    in_view m history k e (claims_with claims slot (claim_after (claims slot) e)) (joined_split m (seen_of m history) (is_known history) (is_known (history ++ keyed_entry k e ∷ [])) (length history) (length (history ++ keyed_entry k e ∷ [])) slot claims valid meets node col at first keep bound (grows_by history k e) short due (split_room m slot (claims slot) node col at first keep bound due))
 due_joins m history k slot claims (Closed node) valid short meets due =
     let e = Closed node in
-    in_view m history k e (claims_with claims slot (claim_after (claims slot) e)) (joined_closed m (seen_of m history) (is_known history) (is_known (history ++ keyed k e ∷ [])) (length history) (length (history ++ keyed k e ∷ [])) slot claims valid meets node (grows_by history k e) due)
+    in_view m history k e (claims_with claims slot (claim_after (claims slot) e)) (joined_closed m (seen_of m history) (is_known history) (is_known (history ++ keyed_entry k e ∷ [])) (length history) (length (history ++ keyed_entry k e ∷ [])) slot claims valid meets node (grows_by history k e) due)
 due_joins m history k slot claims Halt valid short meets due = absurd due
 
 -- and may follow
@@ -118,7 +118,7 @@ pending_follows m history slots slot l e es short agrees there = record {
 }
 
 pub pending_joins : (m : ModelParts) (history : List KeyedEntry) (slots : List (Option (Standing Local))) (slot : ℕ) (k : Key) (l : Local) (e : Entry) (es : List Entry)
-    → IsModel m → length history < 2 ^ 31 → Agrees m history slots → get_or slots slot None ≡ standing l (e ∷ es) → Agrees m (history ++ keyed k e ∷ []) (set slots slot (standing l es))
+    → IsModel m → length history < 2 ^ 31 → Agrees m history slots → get_or slots slot None ≡ standing l (e ∷ es) → Agrees m (history ++ keyed_entry k e ∷ []) (set slots slot (standing l es))
 pending_joins m history slots slot k l e es valid short agrees there =
     let claims = agrees.claims in
     let ready = at_place m slots slot (claims slot) l (e ∷ es) (agrees.ready slot) there in
@@ -128,18 +128,18 @@ pending_joins m history slots slot k l e es valid short agrees there =
       ready = stands_with m claims slots slot (claim_after (claims slot) e) l es agrees.ready ready.1 (place_within slots slot _ there);
     }
 
-pub taken_follow : (m : ModelParts) (history : List KeyedEntry) (k : Key) (l : Local) (es : List Entry)
+pub take_follows : (m : ModelParts) (history : List KeyedEntry) (k : Key) (l : Local) (es : List Entry)
     → length history < 2 ^ 31 → (begun (seen_of m history) l).does ≡ Take es → FollowInTurn (MayFollow m) history (under k es)
-taken_follow m history k l es short does =
+take_follows m history k l es short does =
     let taken = taken_is (seen_of m history) l es does in
     let first = opened_first (seen_of m history) taken.node taken.others taken.opened in
     let follows : FollowInTurn (MayFollow m) history (under k (Start taken.node.name ∷ [])) = (record { short = omega arith; joins = record { node = taken.node; first = first } }, tt) in
     subst (λ (xs : List Entry). FollowInTurn (MayFollow m) history (under k xs)) (sym taken.entries) follows
 
-pub taken_join : (m : ModelParts) (history : List KeyedEntry) (slots : List (Option (Standing Local))) (slot : ℕ) (k : Key) (l : Local) (es : List Entry)
+pub take_joins : (m : ModelParts) (history : List KeyedEntry) (slots : List (Option (Standing Local))) (slot : ℕ) (k : Key) (l : Local) (es : List Entry)
     → IsModel m → Agrees m history slots → get_or slots slot None ≡ standing l [] → is_none l.task ≡ true → (begun (seen_of m history) l).does ≡ Take es
     → Agrees m (history ++ under k es) (set slots slot (standing (begun (seen_of m history) l).local []))
-taken_join m history slots slot k l es valid agrees there start does =
+take_joins m history slots slot k l es valid agrees there start does =
     let v = seen_of m history in
     let claims = agrees.claims in
     let at = at_place m slots slot (claims slot) l [] (agrees.ready slot) there in
@@ -149,14 +149,14 @@ taken_join m history slots slot k l es valid agrees there start does =
     let d = claim_on v (claims slot) node in
     let free : (claims slot).hold ≡ None = subst (IsAtTask (claims slot)) (no_task l.task start) at.task in
     let node_fits = opened_fits m v node taken.others agrees.meets.fits taken.opened in
-    let meets : MeetsAll m (history ++ keyed k e ∷ []) (claims_with claims slot d) =
+    let meets : MeetsAll m (history ++ keyed_entry k e ∷ []) (claims_with claims slot d) =
     in_view m history k e (claims_with claims slot d)
-    (joined_start m v (is_known history) (is_known (history ++ keyed k e ∷ [])) (length history) (length (history ++ keyed k e ∷ [])) slot claims valid agrees.meets node (grows_by history k e) (opened_first v node taken.others taken.opened) free)
+    (joined_start m v (is_known history) (is_known (history ++ keyed_entry k e ∷ [])) (length history) (length (history ++ keyed_entry k e ∷ [])) slot claims valid agrees.meets node (grows_by history k e) (opened_first v node taken.others taken.opened) free)
     in
     let here : IsAt m slot d (record l { task = Some (task_on v node) }) =
     record { fits = on_task m v l node at.fits node_fits; own = at.own; splits = at.splits; task = record { node = node; is = refl; named = refl; boxed = refl; cutoff = refl } }
     in
-    let next : Agrees m (history ++ keyed k e ∷ []) (set slots slot (standing (record l { task = Some (task_on v node) }) [])) = record {
+    let next : Agrees m (history ++ keyed_entry k e ∷ []) (set slots slot (standing (record l { task = Some (task_on v node) }) [])) = record {
       claims = claims_with claims slot d;
       meets = meets;
       ready = stands_with m claims slots slot d (record l { task = Some (task_on v node) }) [] agrees.ready here (place_within slots slot _ there);
@@ -188,10 +188,10 @@ chunk_agrees m history slots slot l valid paired agrees there begun_task =
       ready = stands_set m claims claims slots slot (standing (chunk_of m l l.task).local (chunk_of m l l.task).gives.entries) (λ i apart. refl) agrees.ready here (place_within slots slot _ there);
     }
 
-pub halt_joins : (m : ModelParts) (history : List KeyedEntry) (slots : List (Option (Standing Local))) (k : Key) → IsModel m → Agrees m history slots → Agrees m (history ++ keyed k Halt ∷ []) slots
+pub halt_joins : (m : ModelParts) (history : List KeyedEntry) (slots : List (Option (Standing Local))) (k : Key) → IsModel m → Agrees m history slots → Agrees m (history ++ keyed_entry k Halt ∷ []) slots
 halt_joins m history slots k valid agrees = record {
   claims = agrees.claims;
-  meets = in_view m history k Halt agrees.claims (joined_halt m (seen_of m history) (is_known history) (is_known (history ++ keyed k Halt ∷ [])) (length history) (length (history ++ keyed k Halt ∷ [])) 0 agrees.claims valid agrees.meets (grows_by history k Halt));
+  meets = in_view m history k Halt agrees.claims (joined_halt m (seen_of m history) (is_known history) (is_known (history ++ keyed_entry k Halt ∷ [])) (length history) (length (history ++ keyed_entry k Halt ∷ [])) 0 agrees.claims valid agrees.meets (grows_by history k Halt));
   ready = agrees.ready;
 }
 

@@ -3,7 +3,7 @@ use Rattle.std.proofs.Common.{◌≡◌, ◌∙◌, Bool, true, false, cond, Lis
 use Rattle.std.proofs.lemmas.Bool.{false≢true, true≢false}
 use Rattle.std.proofs.lemmas.List.Elements.{All-cons, All-head, All-nil}
 use Rattle.ip_core.specs.declared.model.ModelParts.{ModelParts}
-use Rattle.work_stamp.specs.Taskers.{Begun, HaveWords}
+use Rattle.work_stamp.specs.Taskers.{AfterBegin, HaveWords}
 use Rattle.work_stamp.specs.Writable.{HasWords}
 use Rattle.work_stamp.specs.declared.entry.Entry.{Entry}
 use Rattle.work_stamp.specs.declared.entry.Entry.TheVariants.{Start}
@@ -31,7 +31,7 @@ same_taken : (xs ys : List Entry) → Take xs ≡ Take ys → ys ≡ xs
 same_taken xs ys e = cc
 
 -- the first open node is taken
-pub record IsTaken (v : View) (l : Local) (es : List Entry) (b : Begun Local) : Type 0 where
+pub record IsTaken (v : View) (l : Local) (es : List Entry) (b : AfterBegin Local) : Type 0 where
   pub node : Node
   pub others : List Node
   pub opened : v.open_nodes ≡ node ∷ others
