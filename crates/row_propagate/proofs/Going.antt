@@ -1,4 +1,4 @@
-use Rattle.std.proofs.Common.{◌≡◌, ◌∙◌, ℕ, ◌+◌, ◌<◌, true, false, List, length, get_or, drop, refl, sym, ap}
+use Rattle.std.proofs.Common.{◌≡◌, ◌∙◌, ℕ, ◌+◌, ◌<◌, true, false, List, length, get_or, drop, refl, sym, ap, subst}
 use Rattle.std.proofs.lemmas.Bool.{false≢true}
 use Rattle.std.proofs.lemmas.List.{drop_more, get_or_default}
 use Rattle.ip_core.specs.declared.row_ref.RowRef.TheVariants.{Model, Cut}
@@ -10,7 +10,8 @@ use Rattle.ip_core.specs.declared.leaf.Tighten.{Tighten}
 use Rattle.row_propagate.specs.declared.outcome.Outcome.{Outcome}
 use Rattle.row_propagate.specs.declared.outcome.Outcome.TheVariants.{Open, Conflict, Empty}
 use Rattle.row_propagate.specs.Passes.{Run, open_run, run_of, is_open, go_on, after_column, after_columns, after_row, after_rows}
-use Rattle.row_propagate.specs.Replay.{IsNaming, IsReplayed, no_row, row_named}
+use Rattle.row_propagate.specs.Replay.{AreNamed, IsNamed, no_row}
+use Rattle.row_propagate.specs.Lawful.{IsReplayed}
 
 -- an outcome that is open is Open
 pub open_is : (outcome : Outcome) → is_open outcome ≡ true → outcome ≡ Open
@@ -45,19 +46,20 @@ pub rows_next : (name : ℕ → RowRef) (rows : List Row) (i : ℕ) (d : Row) (r
 rows_next name rows i d run within = ap (λ rs. after_rows name i rs run) (drop_more rows i d within)
 
 -- nothing happened, and one thing after another
-pub replayed_none : (named : RowRef → Row) (s : Sides) (steps : List Tighten) → IsReplayed named s steps s steps
-replayed_none named s steps = record { from = λ start same. same }
+pub replayed_none : (rows cuts : List Row) (s : Sides) (steps : List Tighten) → IsReplayed rows cuts s steps s steps
+replayed_none rows cuts s steps = record { from = λ start same. same }
 
-pub replayed_both : (named : RowRef → Row) (a b c : Sides) (first second third : List Tighten) → IsReplayed named a first b second → IsReplayed named b second c third → IsReplayed named a first c third
-replayed_both named a b c first second third before after = record { from = λ start same. after.from start (before.from start same) }
+pub replayed_both : (rows cuts : List Row) (a b c : Sides) (first second third : List Tighten) → IsReplayed rows cuts a first b second → IsReplayed rows cuts b second c third → IsReplayed rows cuts a first c third
+replayed_both rows cuts a b c first second third before after = record { from = λ start same. after.from start (before.from start same) }
 
 -- the rows and cuts have their names
-pub model_naming : (rows cuts : List Row) → IsNaming (row_named rows cuts) Model rows
-model_naming rows cuts = record { at = λ i other within. get_or_default rows i no_row other within }
+pub model_naming : (rows cuts : List Row) → AreNamed rows cuts Model rows
+model_naming rows cuts = record { at = λ i other within. record { known = within; same = get_or_default rows i no_row other within } }
 
-pub cut_naming : (rows cuts : List Row) → IsNaming (row_named rows cuts) Cut cuts
-cut_naming rows cuts = record { at = λ i other within. get_or_default cuts i no_row other within }
+pub cut_naming : (rows cuts : List Row) → AreNamed rows cuts Cut cuts
+cut_naming rows cuts = record { at = λ i other within. record { known = within; same = get_or_default cuts i no_row other within } }
 
 -- a row that was read has its name
-pub named_row : (named : RowRef → Row) (name : ℕ → RowRef) (rows : List Row) (i : ℕ) (given : RowRef) (row : Row) → IsNaming named name rows → i < length rows → given ≡ name i → row ≡ get_or rows i row → named given ≡ row
-named_row named name rows i given row naming within same read = ap named same ∙ naming.at i row within ∙ sym read
+pub named_row : (rows cuts : List Row) (name : ℕ → RowRef) (some : List Row) (i : ℕ) (given : RowRef) (row : Row) → AreNamed rows cuts name some → i < length some → given ≡ name i → row ≡ get_or some i row → IsNamed rows cuts given row
+named_row rows cuts name some i given row naming within same read =
+    subst (λ r. IsNamed rows cuts given r) (sym read) (subst (λ n. IsNamed rows cuts n (get_or some i row)) (sym same) (naming.at i row within))

@@ -2,4 +2,5 @@ pub mod Ready
 pub mod Rounding
 pub mod Passes
 pub mod Replay
+pub mod Lawful
 pub mod Points

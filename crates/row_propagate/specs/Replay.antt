@@ -15,15 +15,21 @@ abbrev pub row_named : List Row → List Row → RowRef → Row
 row_named rows cuts (Model i) = slice_index_or rows i no_row
 row_named rows cuts (Cut i) = slice_index_or cuts i no_row
 
--- each row has its name
-pub record IsNaming (named : RowRef → Row) (name : ℕ → RowRef) (rows : List Row) : Type 0 where
-  pub at : (i : ℕ) (other : Row) → i < length rows → named (name i) ≡ slice_index_or rows i other
+-- there is a row of this name
+abbrev pub HasRow : List Row → List Row → RowRef → Type 0
+HasRow rows cuts (Model i) = i < length rows
+HasRow rows cuts (Cut i) = i < length cuts
+
+-- the row of this name
+pub record IsNamed (rows cuts : List Row) (name : RowRef) (row : Row) : Type 0 where
+  pub known : HasRow rows cuts name
+  pub same : row_named rows cuts name ≡ row
+
+-- some rows have their names, by their places
+pub record AreNamed (rows cuts : List Row) (name : ℕ → RowRef) (some : List Row) : Type 0 where
+  pub at : (i : ℕ) (other : Row) → i < length some → IsNamed rows cuts (name i) (slice_index_or some i other)
 
 -- the box after tightenings in order, where `named` gives the row of a name
 abbrev pub replayed : (RowRef → Row) → Sides → List Tighten → Sides
 replayed named s [] = s
 replayed named s (step ∷ steps) = replayed named (tightened (named step.row) s step.col) steps
-
--- a box that came from another by some tightenings is followed by one that came from it by those listed then
-pub record IsReplayed (named : RowRef → Row) (old : Sides) (old_steps : List Tighten) (new : Sides) (new_steps : List Tighten) : Type 0 where
-  pub from : (start : Sides) → old ≡ replayed named start old_steps → new ≡ replayed named start new_steps

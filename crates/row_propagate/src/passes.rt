@@ -4,11 +4,12 @@ ghost use Rattle.ip_core.specs.Models.{term_count as term_count_of};
 ghost use Rattle.ip_core.specs.Rows.{AreRows};
 ghost use Rattle.ip_core.specs.Sides.{HasNoEmpty};
 ghost use Rattle.ip_core.specs.declared.row.Row.{Row as RowValue};
-ghost use Rattle.ip_core.specs.declared.row_ref.RowRef.{RowRef as RowName};
+ghost use Rattle.ip_core.specs.Seq.{Seq};
 ghost use Rattle.row_propagate.specs.Passes.{after_column, after_columns, after_pass, after_passes, after_row, after_rows, counted_of, emptied, name_of, open_run, propagated, run_of};
 ghost use Rattle.row_propagate.specs.Points.{HasMetPoints, HasNoMetPoint};
 ghost use Rattle.row_propagate.specs.Ready.{AreReady, AreShort, IsReady};
-ghost use Rattle.row_propagate.specs.Replay.{IsNaming, IsReplayed, replayed, row_named};
+ghost use Rattle.row_propagate.specs.Replay.{AreNamed, IsNamed, replayed, row_named};
+ghost use Rattle.row_propagate.specs.Lawful.{AreLawfulSteps, IsCause, IsReplayed};
 ghost use Rattle.row_propagate.specs.declared.outcome.Outcome.TheVariants.{Open};
 
 use crate::narrowing::narrower_bound;
@@ -32,10 +33,13 @@ fn tighten_column(
     requires ready { IsReady bounds.old row.now }
     requires known { col < length bounds.old.lows }
     requires solid { HasNoEmpty bounds.old }
-    ensures whole { IfOk result (λ outcome. run_of bounds.new steps.new outcome ≡ after_column name row.now col (open_run bounds.old steps.old)) }
+    ensures whole { IfOk result (λ outcome.
+        run_of bounds.new steps.new outcome
+        ≡ after_column name row.now col (open_run bounds.old steps.old)) }
     ensures within { IsWithin bounds.old bounds.new }
     ensures solid { IfOk result (λ outcome. outcome ≡ Open → HasNoEmpty bounds.new) }
-    ensures replays { (named : RowName → RowValue) → named name ≡ row.now → IsReplayed named bounds.old steps.old bounds.new steps.new }
+    ensures replays { (rows cuts : Seq RowValue) → IsNamed rows cuts name row.now →
+        IsReplayed rows cuts bounds.old steps.old bounds.new steps.new }
 {
     let Some(bound) = narrower_bound(row, bounds, col) else {
         return Ok(Outcome::Open);
@@ -67,10 +71,13 @@ fn tighten_columns(
 ) -> Result<Outcome, OutOfMemory>
     requires ready { IsReady bounds.old row.now }
     requires solid { HasNoEmpty bounds.old }
-    ensures whole { IfOk result (λ outcome. run_of bounds.new steps.new outcome ≡ after_columns name row.now row.now.terms (open_run bounds.old steps.old)) }
+    ensures whole { IfOk result (λ outcome.
+        run_of bounds.new steps.new outcome
+        ≡ after_columns name row.now row.now.terms (open_run bounds.old steps.old)) }
     ensures within { IsWithin bounds.old bounds.new }
     ensures solid { IfOk result (λ outcome. outcome ≡ Open → HasNoEmpty bounds.new) }
-    ensures replays { (named : RowName → RowValue) → named name ≡ row.now → IsReplayed named bounds.old steps.old bounds.new steps.new }
+    ensures replays { (rows cuts : Seq RowValue) → IsNamed rows cuts name row.now →
+        IsReplayed rows cuts bounds.old steps.old bounds.new steps.new }
 {
     for term in row.terms.as_slice() {
         let outcome = tighten_column(row, name, term.col, bounds, steps)?;
@@ -90,10 +97,13 @@ fn visit_row(
 ) -> Result<Outcome, OutOfMemory>
     requires ready { IsReady bounds.old row.now }
     requires solid { HasNoEmpty bounds.old }
-    ensures whole { IfOk result (λ outcome. run_of bounds.new steps.new outcome ≡ after_row name row.now (open_run bounds.old steps.old)) }
+    ensures whole { IfOk result (λ outcome.
+        run_of bounds.new steps.new outcome
+        ≡ after_row name row.now (open_run bounds.old steps.old)) }
     ensures within { IsWithin bounds.old bounds.new }
     ensures solid { IfOk result (λ outcome. outcome ≡ Open → HasNoEmpty bounds.new) }
-    ensures replays { (named : RowName → RowValue) → named name ≡ row.now → IsReplayed named bounds.old steps.old bounds.new steps.new }
+    ensures replays { (rows cuts : Seq RowValue) → IsNamed rows cuts name row.now →
+        IsReplayed rows cuts bounds.old steps.old bounds.new steps.new }
 {
     if conflict(row, bounds) {
         return Ok(Outcome::Conflict(name));
@@ -111,10 +121,13 @@ fn visit_rows(
     requires few { length rows.now ≤ 2 ^ 30 }
     requires ready { AreReady bounds.old rows.now }
     requires solid { HasNoEmpty bounds.old }
-    ensures whole { IfOk result (λ outcome. run_of bounds.new steps.new outcome ≡ after_rows (name_of kind) 0 rows.now (open_run bounds.old steps.old)) }
+    ensures whole { IfOk result (λ outcome.
+        run_of bounds.new steps.new outcome
+        ≡ after_rows (name_of kind) 0 rows.now (open_run bounds.old steps.old)) }
     ensures within { IsWithin bounds.old bounds.new }
     ensures solid { IfOk result (λ outcome. outcome ≡ Open → HasNoEmpty bounds.new) }
-    ensures replays { (named : RowName → RowValue) → IsNaming named (name_of kind) rows.now → IsReplayed named bounds.old steps.old bounds.new steps.new }
+    ensures replays { (all cuts : Seq RowValue) → AreNamed all cuts (name_of kind) rows.now →
+        IsReplayed all cuts bounds.old steps.old bounds.new steps.new }
 {
     for (index, row) in rows.iter().enumerate() {
         let outcome = visit_row(row, kind.name(index as u32), bounds, steps)?;
@@ -137,10 +150,12 @@ fn run_pass(
     requires ready_rows { AreReady bounds.old rows.now }
     requires ready_cuts { AreReady bounds.old cuts.now }
     requires solid { HasNoEmpty bounds.old }
-    ensures whole { IfOk result (λ outcome. run_of bounds.new steps.new outcome ≡ after_pass rows.now cuts.now (open_run bounds.old steps.old)) }
+    ensures whole { IfOk result (λ outcome.
+        run_of bounds.new steps.new outcome
+        ≡ after_pass rows.now cuts.now (open_run bounds.old steps.old)) }
     ensures within { IsWithin bounds.old bounds.new }
     ensures solid { IfOk result (λ outcome. outcome ≡ Open → HasNoEmpty bounds.new) }
-    ensures replays { IsReplayed (row_named rows.now cuts.now) bounds.old steps.old bounds.new steps.new }
+    ensures replays { IsReplayed rows.now cuts.now bounds.old steps.old bounds.new steps.new }
 {
     let outcome = visit_rows(RowKind::ModelRow, rows, bounds, steps)?;
     if !outcome.is_open() {
@@ -161,11 +176,13 @@ fn run_passes(
     requires ready_rows { AreReady bounds.old rows.now }
     requires ready_cuts { AreReady bounds.old cuts.now }
     requires solid { HasNoEmpty bounds.old }
-    ensures whole { IfOk result (λ ended. counted_of (run_of bounds.new steps.new ended.0) ended.1 ≡ after_passes 10 rows.now cuts.now (open_run bounds.old steps.old) 0) }
+    ensures whole { IfOk result (λ ended.
+        counted_of (run_of bounds.new steps.new ended.0) ended.1
+        ≡ after_passes 10 rows.now cuts.now (open_run bounds.old steps.old) 0) }
     ensures few { IfOk result (λ ended. ended.1 ≤ 10) }
     ensures within { IsWithin bounds.old bounds.new }
     ensures solid { IfOk result (λ ended. ended.0 ≡ Open → HasNoEmpty bounds.new) }
-    ensures replays { IsReplayed (row_named rows.now cuts.now) bounds.old steps.old bounds.new steps.new }
+    ensures replays { IsReplayed rows.now cuts.now bounds.old steps.old bounds.new steps.new }
 {
     for passes in 0..MAX_PASSES {
         let before = steps.len();
@@ -213,10 +230,13 @@ pub fn propagate(
     ensures steps { OnOk result (steps.new ≡ (propagated model.now.rows cuts.now bounds.old).steps) }
     ensures run { IfOk result (λ run. run ≡ (propagated model.now.rows cuts.now bounds.old).run) }
     ensures replays { bounds.new ≡ replayed (row_named model.now.rows cuts.now) bounds.old steps.new }
+    ensures lawful { AreLawfulSteps model.now.rows cuts.now bounds.old steps.new }
+    ensures cause { IfOk result (λ run. IsCause model.now.rows cuts.now bounds.new run.outcome) }
     ensures within { IsWithin bounds.old bounds.new }
     ensures solid { IfOk result (λ run. run.outcome ≡ Open → HasNoEmpty bounds.new) }
     ensures keeps { HasMetPoints model.now.rows cuts.now bounds.old bounds.new }
-    ensures none { IfOk result (λ run. run.outcome ≢ Open → HasNoMetPoint model.now.rows cuts.now bounds.old) }
+    ensures none { IfOk result (λ run.
+        run.outcome ≢ Open → HasNoMetPoint model.now.rows cuts.now bounds.old) }
 {
     let parts = model.parts();
     let rows = parts.rows.as_slice();

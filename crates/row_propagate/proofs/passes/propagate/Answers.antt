@@ -3,9 +3,10 @@ use Rattle.ip_core.specs.Models.{term_count}
 use Rattle.ip_core.specs.declared.model.ModelParts.{ModelParts}
 use Rattle.row_propagate.specs.Passes.{Propagated, after_passes, counted_of, open_run, run_of}
 use Rattle.row_propagate.specs.Ready.{AreReady, AreShort}
+use Rattle.row_propagate.specs.Lawful.{AreLawfulSteps}
 use Rattle.row_propagate.proofs.Named.{rows_short}
 use Rattle.row_propagate.proofs.Readiness.{are_ready_within}
-use Rattle.row_propagate.proofs.Propagating.{propagated_empty, propagated_solid, replayed_all, box_keeps, none_met}
+use Rattle.row_propagate.proofs.Propagating.{propagated_empty, propagated_solid, empty_caused, replayed_all, box_keeps, none_met, run_caused}
 use Rattle.row_propagate.proofs.passes.propagate.Goals as goal
 
 pub returns-in-Some-clause-sides : goal.returns-in-Some-clause-sides
@@ -42,12 +43,12 @@ term_count-requires-2-clause-short c =
 pub returns-in_err-outcome-clause-replays : goal.returns-in_err-outcome-clause-replays
 returns-in_err-outcome-clause-replays c =
     let same = c.as_slice-rows.ensures ∙ ap (λ (p : ModelParts). p.rows) c.parts-parts.ensures.value in
-    replayed_all c.args.model.now.rows c.as_slice-rows.result.now c.args.cuts.now c.args.bounds.now c.run_passes.new.bounds c.args.steps.now c.run_passes.new.steps same c.requires.unlisted c.run_passes.ensures.replays
+    (replayed_all c.args.model.now.rows c.as_slice-rows.result.now c.args.cuts.now c.args.bounds.now c.run_passes.new.bounds c.args.steps.now c.run_passes.new.steps same c.requires.unlisted c.run_passes.ensures.replays).replays
 
 pub returns-clause-replays : goal.returns-clause-replays
 returns-clause-replays c =
     let same = c.as_slice-rows.ensures ∙ ap (λ (p : ModelParts). p.rows) c.parts-parts.ensures.value in
-    replayed_all c.args.model.now.rows c.as_slice-rows.result.now c.args.cuts.now c.args.bounds.now c.run_passes.new.bounds c.args.steps.now c.run_passes.new.steps same c.requires.unlisted c.run_passes.ensures.replays
+    (replayed_all c.args.model.now.rows c.as_slice-rows.result.now c.args.cuts.now c.args.bounds.now c.run_passes.new.bounds c.args.steps.now c.run_passes.new.steps same c.requires.unlisted c.run_passes.ensures.replays).replays
 
 pub returns-in_err-outcome-clause-keeps : goal.returns-in_err-outcome-clause-keeps
 returns-in_err-outcome-clause-keeps c =
@@ -56,7 +57,7 @@ returns-in_err-outcome-clause-keeps c =
     let s = c.args.bounds.now in
     let same = c.as_slice-rows.ensures ∙ ap (λ (p : ModelParts). p.rows) c.parts-parts.ensures.value in
     let columns = (c.requires.within c.in_default.ensures).as_many_lows ∙ c.parts-parts.ensures.limits.bounds.box in
-    box_keeps (length m.cols) m.root m.rows cuts s c.run_passes.new.bounds c.run_passes.new.steps c.parts-parts.ensures.limits.rows c.requires.cuts columns (replayed_all m.rows c.as_slice-rows.result.now cuts s c.run_passes.new.bounds c.args.steps.now c.run_passes.new.steps same c.requires.unlisted c.run_passes.ensures.replays)
+    box_keeps (length m.cols) m.root m.rows cuts s c.run_passes.new.bounds c.run_passes.new.steps c.parts-parts.ensures.limits.rows c.requires.cuts columns (replayed_all m.rows c.as_slice-rows.result.now cuts s c.run_passes.new.bounds c.args.steps.now c.run_passes.new.steps same c.requires.unlisted c.run_passes.ensures.replays).replays
 
 pub returns-clause-keeps : goal.returns-clause-keeps
 returns-clause-keeps c =
@@ -65,7 +66,7 @@ returns-clause-keeps c =
     let s = c.args.bounds.now in
     let same = c.as_slice-rows.ensures ∙ ap (λ (p : ModelParts). p.rows) c.parts-parts.ensures.value in
     let columns = (c.requires.within c.in_default.ensures).as_many_lows ∙ c.parts-parts.ensures.limits.bounds.box in
-    box_keeps (length m.cols) m.root m.rows cuts s c.run_passes.new.bounds c.run_passes.new.steps c.parts-parts.ensures.limits.rows c.requires.cuts columns (replayed_all m.rows c.as_slice-rows.result.now cuts s c.run_passes.new.bounds c.args.steps.now c.run_passes.new.steps same c.requires.unlisted c.run_passes.ensures.replays)
+    box_keeps (length m.cols) m.root m.rows cuts s c.run_passes.new.bounds c.run_passes.new.steps c.parts-parts.ensures.limits.rows c.requires.cuts columns (replayed_all m.rows c.as_slice-rows.result.now cuts s c.run_passes.new.bounds c.args.steps.now c.run_passes.new.steps same c.requires.unlisted c.run_passes.ensures.replays).replays
 
 pub returns-clause-sides : goal.returns-clause-sides
 returns-clause-sides c =
@@ -107,4 +108,31 @@ returns-clause-none c =
     let columns = (c.requires.within c.in_default.ensures).as_many_lows ∙ c.parts-parts.ensures.limits.bounds.box in
     let run = run_of c.run_passes.new.bounds c.run_passes.new.steps c.in_ok-outcome.outcome in
     let whole : counted_of run c.in_ok-outcome.passes ≡ after_passes 10 m.rows cuts (open_run s c.args.steps.now) 0 = c.in_ok-outcome.ensures.whole ∙ ap (λ rs. after_passes 10 rs cuts (open_run s c.args.steps.now) 0) same in
-    none_met (length m.cols) m.root m.rows cuts s c.args.steps.now run c.in_ok-outcome.passes c.parts-parts.ensures.limits.rows c.requires.cuts columns whole (box_keeps (length m.cols) m.root m.rows cuts s c.run_passes.new.bounds c.run_passes.new.steps c.parts-parts.ensures.limits.rows c.requires.cuts columns (replayed_all m.rows c.as_slice-rows.result.now cuts s c.run_passes.new.bounds c.args.steps.now c.run_passes.new.steps same c.requires.unlisted c.run_passes.ensures.replays))
+    none_met (length m.cols) m.root m.rows cuts s c.args.steps.now run c.in_ok-outcome.passes c.parts-parts.ensures.limits.rows c.requires.cuts columns c.in_default.ensures whole (box_keeps (length m.cols) m.root m.rows cuts s c.run_passes.new.bounds c.run_passes.new.steps c.parts-parts.ensures.limits.rows c.requires.cuts columns (replayed_all m.rows c.as_slice-rows.result.now cuts s c.run_passes.new.bounds c.args.steps.now c.run_passes.new.steps same c.requires.unlisted c.run_passes.ensures.replays).replays)
+
+pub returns-in_err-outcome-clause-lawful : goal.returns-in_err-outcome-clause-lawful
+returns-in_err-outcome-clause-lawful c =
+    let same = c.as_slice-rows.ensures ∙ ap (λ (p : ModelParts). p.rows) c.parts-parts.ensures.value in
+    (replayed_all c.args.model.now.rows c.as_slice-rows.result.now c.args.cuts.now c.args.bounds.now c.run_passes.new.bounds c.args.steps.now c.run_passes.new.steps same c.requires.unlisted c.run_passes.ensures.replays).lawful
+
+pub returns-clause-lawful : goal.returns-clause-lawful
+returns-clause-lawful c =
+    let same = c.as_slice-rows.ensures ∙ ap (λ (p : ModelParts). p.rows) c.parts-parts.ensures.value in
+    (replayed_all c.args.model.now.rows c.as_slice-rows.result.now c.args.cuts.now c.args.bounds.now c.run_passes.new.bounds c.args.steps.now c.run_passes.new.steps same c.requires.unlisted c.run_passes.ensures.replays).lawful
+
+pub returns-in-Some-clause-lawful : goal.returns-in-Some-clause-lawful
+returns-in-Some-clause-lawful c = subst (AreLawfulSteps c.args.model.now.rows c.args.cuts.now c.args.bounds.now) (sym c.requires.unlisted) tt
+
+pub returns-in-Some-clause-cause : goal.returns-in-Some-clause-cause
+returns-in-Some-clause-cause c = empty_caused c.args.model.now.rows c.args.cuts.now c.args.bounds.now c.in-Some.col c.in-Some.ensures
+
+pub returns-clause-cause : goal.returns-clause-cause
+returns-clause-cause c =
+    let m = c.args.model.now in
+    let cuts = c.args.cuts.now in
+    let s = c.args.bounds.now in
+    let same = c.as_slice-rows.ensures ∙ ap (λ (p : ModelParts). p.rows) c.parts-parts.ensures.value in
+    let columns = (c.requires.within c.in_default.ensures).as_many_lows ∙ c.parts-parts.ensures.limits.bounds.box in
+    let run = run_of c.run_passes.new.bounds c.run_passes.new.steps c.in_ok-outcome.outcome in
+    let whole : counted_of run c.in_ok-outcome.passes ≡ after_passes 10 m.rows cuts (open_run s c.args.steps.now) 0 = c.in_ok-outcome.ensures.whole ∙ ap (λ rs. after_passes 10 rs cuts (open_run s c.args.steps.now) 0) same in
+    (run_caused (length m.cols) m.root m.rows cuts s c.args.steps.now run c.in_ok-outcome.passes c.parts-parts.ensures.limits.rows c.requires.cuts columns c.in_default.ensures whole).cause

@@ -12,4 +12,4 @@ pub returns-clause-replays : goal.returns-clause-replays
 returns-clause-replays c =
     let rows = c.args.rows.now in
     let cuts = c.args.cuts.now in
-    replayed_both _ _ _ _ _ _ _ (c.visit_rows.ensures.replays _ (model_naming rows cuts)) (c.visit_rows-2.ensures.replays _ (cut_naming rows cuts))
+    replayed_both rows cuts _ _ _ _ _ _ (c.visit_rows.ensures.replays rows cuts (model_naming rows cuts)) (c.visit_rows-2.ensures.replays rows cuts (cut_naming rows cuts))

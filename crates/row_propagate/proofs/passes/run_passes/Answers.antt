@@ -33,7 +33,7 @@ loop-passes-preserved c =
       whole = passes_open c.args.rows.now c.args.cuts.now (10 - (c.loop-passes.passes + 1)) (c.loop-passes.passes + 1) c.run_pass.new.bounds c.run_pass.new.steps c.in_ok-outcome.outcome _ (open_is c.in_ok-outcome.outcome open_outcome) (next_pass c.args.rows.now c.args.cuts.now c.loop-passes.passes before after _ c.loop-passes-test.true c.loop-passes.invariant.whole c.in_ok-outcome.ensures.whole due);
       within = within_both _ _ _ c.loop-passes.invariant.within c.run_pass.ensures.within;
       solid = c.in_ok-outcome.ensures.solid (open_is c.in_ok-outcome.outcome open_outcome);
-      replays = replayed_both _ _ _ _ _ _ _ c.loop-passes.invariant.replays c.run_pass.ensures.replays;
+      replays = replayed_both _ _ _ _ _ _ _ _ c.loop-passes.invariant.replays c.run_pass.ensures.replays;
     }
 
 pub returns-clause-whole : goal.returns-clause-whole

@@ -11,4 +11,4 @@ returns-clause-solid c =
 
 pub returns-clause-replays : goal.returns-clause-replays
 returns-clause-replays c =
-    λ named same. rw (c.apply.ensures, c.in_ok-push.ensures.ok, c.tightening.ensures) (step_replayed named c.args.name c.args.row.now c.args.bounds.now c.args.steps.now c.args.col c.in-Some.bound same (sym c.narrower_bound.ensures.value ∙ c.in-Some.is))
+    λ rows cuts named. rw (c.apply.ensures, c.in_ok-push.ensures.ok, c.tightening.ensures) (step_replayed rows cuts c.args.name c.args.row.now c.args.bounds.now c.args.steps.now c.args.col c.in-Some.bound named c.requires.solid c.requires.known (sym c.narrower_bound.ensures.value ∙ c.in-Some.is))

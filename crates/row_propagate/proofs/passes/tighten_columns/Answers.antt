@@ -11,11 +11,11 @@ tighten_column-requires-clause-ready c = ready_narrower c.args.bounds.now c.loop
 
 pub returns-in_err-outcome-clause-replays : goal.returns-in_err-outcome-clause-replays
 returns-in_err-outcome-clause-replays c =
-    λ named same. replayed_both named _ _ _ _ _ _ (c.loop-term.invariant.replays named same) (c.tighten_column.ensures.replays named same)
+    λ rows cuts named. replayed_both rows cuts _ _ _ _ _ _ (c.loop-term.invariant.replays rows cuts named) (c.tighten_column.ensures.replays rows cuts named)
 
 pub returns-then-not-is_open-clause-replays : goal.returns-then-not-is_open-clause-replays
 returns-then-not-is_open-clause-replays c =
-    λ named same. replayed_both named _ _ _ _ _ _ (c.loop-term.invariant.replays named same) (c.tighten_column.ensures.replays named same)
+    λ rows cuts named. replayed_both rows cuts _ _ _ _ _ _ (c.loop-term.invariant.replays rows cuts named) (c.tighten_column.ensures.replays rows cuts named)
 
 pub loop-term-preserved : goal.loop-term-preserved
 loop-term-preserved c =
@@ -30,5 +30,5 @@ loop-term-preserved c =
       whole = sym (columns_next name row terms i d start c.loop-term-test.true ∙ go_open _ _ _ c.in_ok-outcome.outcome (after_columns name row (drop (i + 1) terms)) c.in_ok-outcome.ensures.whole open_outcome) ∙ c.loop-term.invariant.whole;
       within = within_both _ _ _ c.loop-term.invariant.within c.tighten_column.ensures.within;
       solid = c.in_ok-outcome.ensures.solid (open_is c.in_ok-outcome.outcome open_outcome);
-      replays = λ named same. replayed_both named _ _ _ _ _ _ (c.loop-term.invariant.replays named same) (c.tighten_column.ensures.replays named same);
+      replays = λ rows cuts named. replayed_both rows cuts _ _ _ _ _ _ (c.loop-term.invariant.replays rows cuts named) (c.tighten_column.ensures.replays rows cuts named);
     }

@@ -13,11 +13,11 @@ visit_row-requires-clause-ready c =
 
 pub returns-in_err-outcome-clause-replays : goal.returns-in_err-outcome-clause-replays
 returns-in_err-outcome-clause-replays c =
-    λ named naming. replayed_both named _ _ _ _ _ _ (c.loop-index.invariant.replays named naming) (c.visit_row.ensures.replays named (named_row named (name_of c.args.kind) c.args.rows.now c.loop-index.index c.name.result c.index-rows-index.result naming c.loop-index-test.true c.name.ensures c.index-rows-index.is))
+    λ all cuts naming. replayed_both all cuts _ _ _ _ _ _ (c.loop-index.invariant.replays all cuts naming) (c.visit_row.ensures.replays all cuts (named_row all cuts (name_of c.args.kind) c.args.rows.now c.loop-index.index c.name.result c.index-rows-index.result naming c.loop-index-test.true c.name.ensures c.index-rows-index.is))
 
 pub returns-then-not-is_open-clause-replays : goal.returns-then-not-is_open-clause-replays
 returns-then-not-is_open-clause-replays c =
-    λ named naming. replayed_both named _ _ _ _ _ _ (c.loop-index.invariant.replays named naming) (c.visit_row.ensures.replays named (named_row named (name_of c.args.kind) c.args.rows.now c.loop-index.index c.name.result c.index-rows-index.result naming c.loop-index-test.true c.name.ensures c.index-rows-index.is))
+    λ all cuts naming. replayed_both all cuts _ _ _ _ _ _ (c.loop-index.invariant.replays all cuts naming) (c.visit_row.ensures.replays all cuts (named_row all cuts (name_of c.args.kind) c.args.rows.now c.loop-index.index c.name.result c.index-rows-index.result naming c.loop-index-test.true c.name.ensures c.index-rows-index.is))
 
 pub loop-index-preserved : goal.loop-index-preserved
 loop-index-preserved c =
@@ -32,5 +32,5 @@ loop-index-preserved c =
       whole = sym (rows_next name rows i row start c.loop-index-test.true ∙ go_open _ _ _ c.in_ok-outcome.outcome (after_rows name (i + 1) (drop (i + 1) rows)) whole open_outcome) ∙ c.loop-index.invariant.whole;
       within = within_both _ _ _ c.loop-index.invariant.within c.visit_row.ensures.within;
       solid = c.in_ok-outcome.ensures.solid (open_is c.in_ok-outcome.outcome open_outcome);
-      replays = λ named naming. replayed_both named _ _ _ _ _ _ (c.loop-index.invariant.replays named naming) (c.visit_row.ensures.replays named (named_row named (name_of c.args.kind) c.args.rows.now c.loop-index.index c.name.result c.index-rows-index.result naming c.loop-index-test.true c.name.ensures c.index-rows-index.is));
+      replays = λ all cuts naming. replayed_both all cuts _ _ _ _ _ _ (c.loop-index.invariant.replays all cuts naming) (c.visit_row.ensures.replays all cuts (named_row all cuts (name_of c.args.kind) c.args.rows.now c.loop-index.index c.name.result c.index-rows-index.result naming c.loop-index-test.true c.name.ensures c.index-rows-index.is));
     }
