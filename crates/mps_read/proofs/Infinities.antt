@@ -2,7 +2,7 @@ use Rattle.std.proofs.Common.{◌≡◌, ℕ, zero, suc, ◌+◌, ◌*◌, ◌^�
 use Rattle.std.proofs.lemmas.Bool.Decides.{nat_tests}
 use Rattle.std.proofs.lemmas.Int.{ints}
 use Rattle.std.proofs.Math.Nat.{pow-le-pow_right, mul-le-mul_right, one-le-pow}
-use Rattle.mps_read.specs.Numerals.{reaches_infinity}
+use Rattle.mps_model.specs.Numbers.{reaches_infinity}
 
 zero-mul : (n : ℕ) → 0 * n ≡ 0
 zero-mul n = omega arith

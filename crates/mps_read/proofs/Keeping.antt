@@ -3,8 +3,8 @@ use Rattle.std.proofs.lemmas.List.{length-append, length-set}
 use Rattle.ip_core.specs.Decimals.{Number}
 use Rattle.mps_read.specs.RowFacts.{state_at, is_tested, with_value_mark, marked, with_marked, with_value}
 use Rattle.mps_read.specs.Drafts.{IsDraft, IsPlaced, latest_at}
-use Rattle.mps_read.specs.declared.model.MpsRow.{MpsRow}
-use Rattle.mps_read.specs.declared.model.MpsCol.{MpsCol}
+use Rattle.mps_model.specs.declared.model.MpsRow.{MpsRow}
+use Rattle.mps_model.specs.declared.model.MpsCol.{MpsCol}
 use Rattle.mps_read.specs.declared.section.Section.{Section}
 use Rattle.mps_read.specs.declared.section.ValueKind.{ValueKind}
 use Rattle.mps_read.specs.declared.section.ValueKind.TheVariants.{Side, Range}

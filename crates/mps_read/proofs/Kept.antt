@@ -2,10 +2,12 @@ use Rattle.std.proofs.Common.{◌≡◌, ◌∙◌, ℕ, ◌+◌, ◌≤◌, ◌
 use Rattle.std.proofs.lemmas.List.{length-set}
 use Rattle.ip_core.specs.Decimals.{Number}
 use Rattle.mps_read.specs.Names.{is_among, place_among, with_name}
-use Rattle.mps_read.specs.Numerals.{decimal_of, is_zero}
+use Rattle.mps_model.specs.Numbers.{is_zero}
+use Rattle.mps_read.specs.Numerals.{decimal_of}
 use Rattle.mps_read.specs.Forms.{Form, Pair, Blank, Spoilt, Head, UnknownHead, Stray, Miscounted, SenseLine, FreeRow, KeptRow, UntypedRow, Marker, UnknownMarker, Entries, Values, BoundLine, UntypedBound}
 use Rattle.mps_read.specs.Facts.{is_used, first_given}
-use Rattle.mps_read.specs.RowFacts.{fresh, free_place, fresh_row, state_at, is_tested, with_marked, with_value, place_of_pair}
+use Rattle.mps_model.specs.Prints.{fresh_row}
+use Rattle.mps_read.specs.RowFacts.{fresh, free_place, state_at, is_tested, with_marked, with_value, place_of_pair}
 use Rattle.mps_read.specs.ColumnFacts.{fresh_column, column_at, with_entry}
 use Rattle.mps_read.specs.Kinds.{kind_of, values_use, has_bad_numeral, has_unknown_name, is_repeated_entry, is_split_column}
 use Rattle.mps_read.specs.Readings.{draft_of}
@@ -14,8 +16,8 @@ use Rattle.std.proofs.lemmas.Bool.Decides.{nat_tests}
 use Rattle.mps_read.proofs.Places.{place_new}
 use Rattle.mps_read.specs.Steps.{after, after_head, after_free, after_row, begun, entered, entered_pair, given, given_pair, with_values_set}
 use Rattle.mps_read.specs.Drafts.{IsDraft, IsPlaced}
-use Rattle.mps_read.specs.declared.model.RowKind.{RowKind}
-use Rattle.mps_read.specs.declared.model.MpsCol.{MpsCol}
+use Rattle.mps_model.specs.declared.model.RowKind.{RowKind}
+use Rattle.mps_model.specs.declared.model.MpsCol.{MpsCol}
 use Rattle.mps_read.specs.declared.section.Section.{Section}
 use Rattle.mps_read.specs.declared.section.Section.TheVariants.{Name, Objsense, Rows, Columns, Rhs, Ranges, Bounds, Endata}
 use Rattle.mps_read.specs.declared.section.ValueKind.{ValueKind}

@@ -11,7 +11,6 @@ pub mod Keeping
 pub mod Marks
 pub mod Kept
 pub mod Runs
-pub mod PrintRows
 pub mod PrintBytes
 pub mod PrintNames
 pub mod PrintLines

@@ -5,7 +5,7 @@ use Rattle.mps_read.specs.Names.{is_among, is_long}
 use Rattle.mps_read.specs.Forms.{Form, Pair, Head, FreeRow, KeptRow, Entries, marker_word}
 use Rattle.mps_read.specs.Kinds.{kind_of, rank_of, is_in_order, has_bad_numeral, has_unknown_name, is_repeated_entry, is_split_column}
 use Rattle.mps_read.specs.declared.error.MpsKind.TheVariants.{SectionOrder, Numeral, RepeatedName, UnknownName, RepeatedEntry, SplitColumn, Marker, NoObjective, LongName}
-use Rattle.mps_read.specs.declared.model.RowKind.{RowKind}
+use Rattle.mps_model.specs.declared.model.RowKind.{RowKind}
 use Rattle.mps_read.specs.declared.section.Section.TheVariants.{Name, Columns, Rhs, Ranges, Bounds, Endata}
 use Rattle.mps_read.specs.declared.draft.Draft.{Draft}
 use Rattle.mps_read.proofs.Truths.{none_else}

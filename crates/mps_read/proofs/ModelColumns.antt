@@ -7,16 +7,17 @@ use Rattle.ip_core.specs.Decimals.{Number, IsDecimal, negated, read_decimal}
 use Rattle.ip_core.specs.declared.decimal.NumeralError.{NumeralError}
 use Rattle.ip_core.proofs.DecimalReads.{zero_is, read_decimal_is}
 use Rattle.mps_read.specs.Names.{is_among, extended}
-use Rattle.mps_read.specs.Numerals.{zero_decimal, one_decimal, or_zero, decimal_of, is_zero, is_infinite}
+use Rattle.mps_model.specs.Numbers.{zero_decimal, is_zero, is_infinite}
+use Rattle.mps_read.specs.Numerals.{one_decimal, or_zero, decimal_of}
 use Rattle.mps_read.specs.RowFacts.{state_at, is_tested}
 use Rattle.mps_read.specs.ColumnFacts.{column_at, fresh_column, with_entry, with_mark, low_limit, high_limit, bounded, with_bound}
 use Rattle.mps_read.specs.Kinds.{has_mark}
 use Rattle.mps_read.specs.Steps.{begun, entered}
-use Rattle.mps_read.specs.MpsModels.{IsField, IsMpsEntry, IsLow, IsHigh}
-use Rattle.mps_read.specs.declared.model.Limit.{Limit}
-use Rattle.mps_read.specs.declared.model.Limit.TheVariants.{Free, At}
-use Rattle.mps_read.specs.declared.model.MpsCol.{MpsCol}
-use Rattle.mps_read.specs.declared.model.MpsEntry.{MpsEntry}
+use Rattle.mps_model.specs.MpsModels.{IsField, IsMpsEntry, IsLow, IsHigh}
+use Rattle.mps_model.specs.declared.model.Limit.{Limit}
+use Rattle.mps_model.specs.declared.model.Limit.TheVariants.{Free, At}
+use Rattle.mps_model.specs.declared.model.MpsCol.{MpsCol}
+use Rattle.mps_model.specs.declared.model.MpsEntry.{MpsEntry}
 use Rattle.mps_read.specs.declared.section.BoundKind.{BoundKind}
 use Rattle.mps_read.specs.declared.section.BoundKind.TheVariants.{Lower, Upper, Fixed, IntegerLower, IntegerUpper, Free as NoSides, NoLower, NoUpper, Binary}
 use Rattle.mps_read.specs.declared.draft.Draft.{Draft}

@@ -4,9 +4,9 @@ use Rattle.ip_core.specs.Decimals.{Number, IsDecimal}
 use Rattle.mps_read.specs.RowFacts.{state_at}
 use Rattle.mps_read.specs.ColumnFacts.{column_at}
 use Rattle.mps_read.specs.Kinds.{has_mark, rank_of}
-use Rattle.mps_read.specs.MpsModels.{IsField, IsRowName, IsMpsRow, IsMpsEntry, IsLow, IsHigh}
-use Rattle.mps_read.specs.declared.model.MpsRow.{MpsRow}
-use Rattle.mps_read.specs.declared.model.MpsCol.{MpsCol}
+use Rattle.mps_model.specs.MpsModels.{IsField, IsRowName, IsMpsRow, IsMpsEntry, IsLow, IsHigh}
+use Rattle.mps_model.specs.declared.model.MpsRow.{MpsRow}
+use Rattle.mps_model.specs.declared.model.MpsCol.{MpsCol}
 use Rattle.mps_read.specs.declared.section.Section.{Section}
 use Rattle.mps_read.specs.declared.draft.Draft.{Draft}
 use Rattle.mps_read.specs.declared.draft.Mark.{Mark}

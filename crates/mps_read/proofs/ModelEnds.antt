@@ -7,8 +7,8 @@ use Rattle.mps_read.specs.Forms.{Form, Blank, Spoilt, Head, UnknownHead, Stray, 
 use Rattle.mps_read.specs.Kinds.{kind_of}
 use Rattle.mps_read.specs.Drafts.{IsDraft}
 use Rattle.mps_read.specs.Readings.{draft_of, is_maximise, model_of, name_or_empty}
-use Rattle.mps_read.specs.MpsModels.{IsMpsRow, IsMpsCol, IsMpsModel}
-use Rattle.mps_read.specs.declared.model.MpsCol.{MpsCol}
+use Rattle.mps_model.specs.MpsModels.{IsMpsRow, IsMpsCol, IsMpsModel}
+use Rattle.mps_model.specs.declared.model.MpsCol.{MpsCol}
 use Rattle.mps_read.specs.declared.section.Section.TheVariants.{Name, Objsense, Rows, Columns, Rhs, Ranges, Bounds, Endata}
 use Rattle.mps_read.specs.declared.draft.Draft.{Draft}
 use Rattle.mps_read.proofs.ModelLists.{AreApart, distinct}

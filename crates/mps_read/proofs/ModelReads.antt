@@ -6,9 +6,9 @@ use Rattle.mps_read.specs.Kinds.{kind_of}
 use Rattle.mps_read.specs.Drafts.{IsDraft}
 use Rattle.mps_read.specs.Steps.{after, run}
 use Rattle.mps_read.specs.Readings.{Reading, Read, RefusedAt, outcome, draft_of, model_of, reading}
-use Rattle.mps_read.specs.MpsModels.{IsMpsModel}
+use Rattle.mps_model.specs.MpsModels.{IsMpsModel}
 use Rattle.mps_read.specs.declared.error.MpsKind.{MpsKind}
-use Rattle.mps_read.specs.declared.model.MpsModel.{MpsModel}
+use Rattle.mps_model.specs.declared.model.MpsModel.{MpsModel}
 use Rattle.mps_read.specs.declared.draft.Draft.{Draft}
 use Rattle.mps_read.proofs.Bridge.{begins}
 use Rattle.mps_read.proofs.Kept.{after_kept, first_kept}

@@ -6,15 +6,16 @@ use Rattle.ip_core.specs.Decimals.{Number, IsDecimal, negated}
 use Rattle.ip_core.proofs.DecimalReads.{zero_is}
 use Rattle.mps_read.specs.Names.{is_among}
 use Rattle.mps_read.specs.Facts.{first_given}
-use Rattle.mps_read.specs.RowFacts.{state_at, fresh, free_place, fresh_row, valued, with_value, with_constant, with_marked}
+use Rattle.mps_model.specs.Prints.{fresh_row}
+use Rattle.mps_read.specs.RowFacts.{state_at, fresh, free_place, valued, with_value, with_constant, with_marked}
 use Rattle.mps_read.specs.ColumnFacts.{column_at, fresh_column}
 use Rattle.mps_read.specs.Drafts.{IsPlaced}
-use Rattle.mps_read.specs.MpsModels.{IsRowName, IsMpsRow, IsMpsEntry}
-use Rattle.mps_read.specs.declared.model.RowKind.{RowKind}
-use Rattle.mps_read.specs.declared.model.RowKind.TheVariants.{Less}
-use Rattle.mps_read.specs.declared.model.MpsRow.{MpsRow}
-use Rattle.mps_read.specs.declared.model.MpsEntry.{MpsEntry}
-use Rattle.mps_read.specs.declared.model.MpsCol.{MpsCol}
+use Rattle.mps_model.specs.MpsModels.{IsRowName, IsMpsRow, IsMpsEntry}
+use Rattle.mps_model.specs.declared.model.RowKind.{RowKind}
+use Rattle.mps_model.specs.declared.model.RowKind.TheVariants.{Less}
+use Rattle.mps_model.specs.declared.model.MpsRow.{MpsRow}
+use Rattle.mps_model.specs.declared.model.MpsEntry.{MpsEntry}
+use Rattle.mps_model.specs.declared.model.MpsCol.{MpsCol}
 use Rattle.mps_read.specs.declared.section.ValueKind.{ValueKind}
 use Rattle.mps_read.specs.declared.section.ValueKind.TheVariants.{Side, Range}
 use Rattle.mps_read.specs.declared.draft.Mark.{Mark}

@@ -7,12 +7,13 @@ use Rattle.mps_read.specs.Lines.{is_visible}
 use Rattle.mps_read.specs.Numerals.{decimal_of}
 use Rattle.mps_read.specs.Forms.{Form, Pair, Blank, Spoilt, Head, UnknownHead, Stray, Miscounted, SenseLine, FreeRow, KeptRow, UntypedRow, Marker, UnknownMarker, Entries, Values, BoundLine, UntypedBound}
 use Rattle.mps_read.specs.Facts.{is_used, first_given}
-use Rattle.mps_read.specs.RowFacts.{fresh, free_place, fresh_row, state_at, is_tested, place_of_pair}
+use Rattle.mps_model.specs.Prints.{fresh_row}
+use Rattle.mps_read.specs.RowFacts.{fresh, free_place, state_at, is_tested, place_of_pair}
 use Rattle.mps_read.specs.Kinds.{kind_of, rank_of, values_use, has_mark, is_repeated_entry}
 use Rattle.mps_read.specs.Drafts.{IsDraft}
 use Rattle.mps_read.specs.Steps.{after, after_head, after_bound, begun, entered_pair, given, given_pair, with_values_set}
-use Rattle.mps_read.specs.MpsModels.{IsRowName}
-use Rattle.mps_read.specs.declared.model.RowKind.{RowKind}
+use Rattle.mps_model.specs.MpsModels.{IsRowName}
+use Rattle.mps_model.specs.declared.model.RowKind.{RowKind}
 use Rattle.mps_read.specs.declared.section.Section.{Section}
 use Rattle.mps_read.specs.declared.section.Section.TheVariants.{Name, Objsense, Rows, Columns, Rhs, Ranges, Bounds, Endata}
 use Rattle.mps_read.specs.declared.section.ValueKind.{ValueKind}

@@ -16,8 +16,8 @@ use Rattle.mps_read.specs.RowFacts.{state_at}
 use Rattle.mps_read.specs.Kinds.{kind_of, has_mark, is_split_column}
 use Rattle.mps_read.specs.Readings.{Reading, Read, outcome, model_of}
 use Rattle.mps_read.specs.Steps.{after, run}
-use Rattle.mps_read.specs.Prints.{spaced, data_line}
-use Rattle.mps_read.specs.declared.model.RowKind.{RowKind}
+use Rattle.mps_model.specs.Prints.{spaced, data_line}
+use Rattle.mps_model.specs.declared.model.RowKind.{RowKind}
 use Rattle.mps_read.specs.declared.section.ValueKind.TheVariants.{Side, Range}
 use Rattle.mps_read.specs.declared.section.BoundKind.{BoundKind}
 use Rattle.mps_read.specs.declared.draft.Draft.{Draft}

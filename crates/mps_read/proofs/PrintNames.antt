@@ -4,7 +4,7 @@ use Rattle.std.proofs.lemmas.Bool.{false_from_ne_true}
 use Rattle.std.proofs.lemmas.Slice.Eq.{bytes_eq-Decides}
 use Rattle.std.proofs.lemmas.List.{length-append, get_or_at}
 use Rattle.mps_read.specs.Names.{is_among, place_among, with_name}
-use Rattle.mps_read.specs.MpsModels.{AreDistinct}
+use Rattle.mps_model.specs.MpsModels.{AreDistinct}
 
 -- names that differ, and their places
 

@@ -1,15 +1,15 @@
 use Rattle.std.proofs.Common.{◌≡◌, ◌≤◌, ◌+◌, ℕ, Bool, true, false, not, ◌&&◌, List, [], ◌∷◌, ◌++◌, length, map, Option, Some, None}
 use Rattle.std.specs.List.{list_all}
 use Rattle.ip_core.specs.Decimals.{Number}
-use Rattle.mps_read.specs.Numerals.{zero_decimal}
+use Rattle.mps_model.specs.Numbers.{zero_decimal}
 use Rattle.mps_read.specs.Facts.{no_set}
-use Rattle.mps_read.specs.RowFacts.{fresh_row}
+use Rattle.mps_model.specs.Prints.{fresh_row}
 use Rattle.mps_read.specs.Kinds.{has_mark}
 use Rattle.mps_read.specs.Readings.{is_maximise}
-use Rattle.mps_read.specs.declared.model.Limit.TheVariants.{Unset}
-use Rattle.mps_read.specs.declared.model.MpsRow.{MpsRow}
-use Rattle.mps_read.specs.declared.model.MpsCol.{MpsCol}
-use Rattle.mps_read.specs.declared.model.MpsModel.{MpsModel}
+use Rattle.mps_model.specs.declared.model.Limit.TheVariants.{Unset}
+use Rattle.mps_model.specs.declared.model.MpsRow.{MpsRow}
+use Rattle.mps_model.specs.declared.model.MpsCol.{MpsCol}
+use Rattle.mps_model.specs.declared.model.MpsModel.{MpsModel}
 use Rattle.mps_read.specs.declared.section.Section.TheVariants.{Rows, Columns}
 use Rattle.mps_read.specs.declared.draft.RowPlace.{RowPlace}
 use Rattle.mps_read.specs.declared.draft.RowPlace.TheVariants.{Objective, Kept}

@@ -5,13 +5,14 @@ use Rattle.std.proofs.lemmas.List.{length-map}
 use Rattle.ip_core.specs.Decimals.{Number, IsDecimal}
 use Rattle.ip_core.proofs.DecimalDigits.{and_true}
 use Rattle.mps_read.specs.Names.{is_among, place_among}
-use Rattle.mps_read.specs.Numerals.{zero_decimal, is_zero, is_zero_int}
-use Rattle.mps_read.specs.RowFacts.{fresh, fresh_row, state_at}
-use Rattle.mps_read.specs.MpsModels.{IsMpsModel, AreDistinct}
-use Rattle.mps_read.specs.Prints.{row_name}
-use Rattle.mps_read.specs.declared.model.RowKind.TheVariants.{Less}
-use Rattle.mps_read.specs.declared.model.MpsRow.{MpsRow}
-use Rattle.mps_read.specs.declared.model.MpsModel.{MpsModel}
+use Rattle.mps_model.specs.Numbers.{zero_decimal, is_zero, is_zero_int}
+use Rattle.mps_model.specs.Prints.{fresh_row}
+use Rattle.mps_read.specs.RowFacts.{fresh, state_at}
+use Rattle.mps_model.specs.MpsModels.{IsMpsModel, AreDistinct}
+use Rattle.mps_model.specs.Prints.{row_name}
+use Rattle.mps_model.specs.declared.model.RowKind.TheVariants.{Less}
+use Rattle.mps_model.specs.declared.model.MpsRow.{MpsRow}
+use Rattle.mps_model.specs.declared.model.MpsModel.{MpsModel}
 use Rattle.mps_read.specs.declared.draft.RowPlace.{RowPlace}
 use Rattle.mps_read.specs.declared.draft.RowPlace.TheVariants.{Objective, Dropped, Kept}
 use Rattle.mps_read.specs.declared.draft.RowState.{RowState}

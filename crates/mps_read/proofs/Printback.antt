@@ -1,9 +1,9 @@
 use Rattle.std.proofs.Common.{◌≡◌, ◌∙◌, ℕ, List, [], ◌∷◌, ◌++◌, false, codes, refl, sym, subst}
 use Rattle.std.proofs.lemmas.List.{append_assoc}
 use Rattle.mps_read.specs.Readings.{Read, reading, draft_of}
-use Rattle.mps_read.specs.MpsModels.{IsMpsModel}
-use Rattle.mps_read.specs.Prints.{data_line, name_line, sense_lines, row_lines, columns_lines, section_lines, sides_lines, range_lines, bound_lines, printed}
-use Rattle.mps_read.specs.declared.model.MpsModel.{MpsModel}
+use Rattle.mps_model.specs.MpsModels.{IsMpsModel}
+use Rattle.mps_model.specs.Prints.{data_line, name_line, sense_lines, row_lines, columns_lines, section_lines, sides_lines, range_lines, bound_lines, printed}
+use Rattle.mps_model.specs.declared.model.MpsModel.{MpsModel}
 use Rattle.mps_read.proofs.Bridge.{begins}
 use Rattle.mps_read.proofs.PrintLines.{Gives}
 use Rattle.mps_read.proofs.PrintedRows.{name_back, sense_back, rows_section_back}

@@ -13,13 +13,13 @@ use Rattle.mps_read.specs.ColumnFacts.{fresh_column, low_limit, high_limit, boun
 use Rattle.mps_read.specs.Kinds.{kind_of}
 use Rattle.mps_read.specs.Readings.{Reading, Read, outcome, model_of, name_or_empty, is_maximise}
 use Rattle.mps_read.specs.Steps.{after, after_head, after_bound, run}
-use Rattle.mps_read.specs.MpsModels.{IsMpsModel, IsMpsCol, IsLow, IsHigh, AreDistinct}
-use Rattle.mps_read.specs.Prints.{data_line, section_lines, low_line, high_line, bound_lines}
-use Rattle.mps_read.specs.declared.model.Limit.{Limit}
-use Rattle.mps_read.specs.declared.model.Limit.TheVariants.{Unset, Free, At}
-use Rattle.mps_read.specs.declared.model.MpsRow.{MpsRow}
-use Rattle.mps_read.specs.declared.model.MpsCol.{MpsCol}
-use Rattle.mps_read.specs.declared.model.MpsModel.{MpsModel}
+use Rattle.mps_model.specs.MpsModels.{IsMpsModel, IsMpsCol, IsLow, IsHigh, AreDistinct}
+use Rattle.mps_model.specs.Prints.{data_line, section_lines, low_line, high_line, bound_lines}
+use Rattle.mps_model.specs.declared.model.Limit.{Limit}
+use Rattle.mps_model.specs.declared.model.Limit.TheVariants.{Unset, Free, At}
+use Rattle.mps_model.specs.declared.model.MpsRow.{MpsRow}
+use Rattle.mps_model.specs.declared.model.MpsCol.{MpsCol}
+use Rattle.mps_model.specs.declared.model.MpsModel.{MpsModel}
 use Rattle.mps_read.specs.declared.section.Section.{Section}
 use Rattle.mps_read.specs.declared.section.Section.TheVariants.{Bounds, Endata}
 use Rattle.mps_read.specs.declared.section.BoundKind.{BoundKind}

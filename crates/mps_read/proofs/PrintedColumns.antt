@@ -7,21 +7,23 @@ use Rattle.ip_core.specs.Decimals.{Number, IsDecimal}
 use Rattle.ip_core.specs.Prints.{number_text}
 use Rattle.ip_core.proofs.DecimalDigits.{and_true}
 use Rattle.mps_read.specs.Names.{is_among, place_among, extended, with_name}
-use Rattle.mps_read.specs.Numerals.{zero_decimal, decimal_of, is_zero}
+use Rattle.mps_model.specs.Numbers.{zero_decimal, is_zero}
+use Rattle.mps_read.specs.Numerals.{decimal_of}
 use Rattle.mps_read.specs.Lines.{words_of}
 use Rattle.mps_read.specs.Forms.{Pair, Head, Marker, Entries, form_of, words_form, marker_form, marker_word}
-use Rattle.mps_read.specs.RowFacts.{fresh_row, state_at, place_of_pair}
+use Rattle.mps_model.specs.Prints.{fresh_row}
+use Rattle.mps_read.specs.RowFacts.{state_at, place_of_pair}
 use Rattle.mps_read.specs.ColumnFacts.{fresh_column, column_at, with_entry, with_coefficient, with_mark}
 use Rattle.mps_read.specs.Kinds.{kind_of, has_mark}
 use Rattle.mps_read.specs.Readings.{Reading}
 use Rattle.mps_read.specs.Steps.{after, after_head, begun, entered, entered_pair}
-use Rattle.mps_read.specs.MpsModels.{IsMpsModel, IsMpsCol, IsMpsEntry, IsMpsRow, AreDistinct}
-use Rattle.mps_read.specs.Prints.{pair_line, marker_line, row_name, omits_cost, cost_line, entry_lines, column_lines, columns_lines}
-use Rattle.mps_read.specs.declared.model.RowKind.TheVariants.{Less}
-use Rattle.mps_read.specs.declared.model.Limit.TheVariants.{Unset}
-use Rattle.mps_read.specs.declared.model.MpsEntry.{MpsEntry}
-use Rattle.mps_read.specs.declared.model.MpsCol.{MpsCol}
-use Rattle.mps_read.specs.declared.model.MpsModel.{MpsModel}
+use Rattle.mps_model.specs.MpsModels.{IsMpsModel, IsMpsCol, IsMpsEntry, IsMpsRow, AreDistinct}
+use Rattle.mps_model.specs.Prints.{pair_line, marker_line, row_name, omits_cost, cost_line, entry_lines, column_lines, columns_lines}
+use Rattle.mps_model.specs.declared.model.RowKind.TheVariants.{Less}
+use Rattle.mps_model.specs.declared.model.Limit.TheVariants.{Unset}
+use Rattle.mps_model.specs.declared.model.MpsEntry.{MpsEntry}
+use Rattle.mps_model.specs.declared.model.MpsCol.{MpsCol}
+use Rattle.mps_model.specs.declared.model.MpsModel.{MpsModel}
 use Rattle.mps_read.specs.declared.section.Section.TheVariants.{Columns}
 use Rattle.mps_read.specs.declared.draft.RowPlace.{RowPlace}
 use Rattle.mps_read.specs.declared.draft.RowPlace.TheVariants.{Objective, Kept}

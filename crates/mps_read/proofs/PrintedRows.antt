@@ -9,16 +9,17 @@ use Rattle.ip_core.specs.Names.{IsName}
 use Rattle.mps_read.specs.Names.{is_among, is_long, extended}
 use Rattle.mps_read.specs.Lines.{words_of, fields}
 use Rattle.mps_read.specs.Forms.{Head, SenseLine, FreeRow, KeptRow, Spoilt, form_of, words_form, marker_word}
-use Rattle.mps_read.specs.RowFacts.{fresh, fresh_row}
+use Rattle.mps_model.specs.Prints.{fresh_row}
+use Rattle.mps_read.specs.RowFacts.{fresh}
 use Rattle.mps_read.specs.Kinds.{kind_of, rank_of, is_objsense}
 use Rattle.mps_read.specs.Readings.{Reading, draft_of, is_maximise}
 use Rattle.mps_read.specs.Steps.{after_free, after_row}
-use Rattle.mps_read.specs.MpsModels.{IsMpsModel, IsMpsRow, IsRowName, AreDistinct}
-use Rattle.mps_read.specs.Prints.{spaced, data_line, name_line, sense_lines, kind_word, row_line, row_lines}
-use Rattle.mps_read.specs.declared.model.RowKind.{RowKind}
-use Rattle.mps_read.specs.declared.model.RowKind.TheVariants.{Less, Greater, Equal}
-use Rattle.mps_read.specs.declared.model.MpsRow.{MpsRow}
-use Rattle.mps_read.specs.declared.model.MpsModel.{MpsModel}
+use Rattle.mps_model.specs.MpsModels.{IsMpsModel, IsMpsRow, IsRowName, AreDistinct}
+use Rattle.mps_model.specs.Prints.{spaced, data_line, name_line, sense_lines, kind_word, row_line, row_lines}
+use Rattle.mps_model.specs.declared.model.RowKind.{RowKind}
+use Rattle.mps_model.specs.declared.model.RowKind.TheVariants.{Less, Greater, Equal}
+use Rattle.mps_model.specs.declared.model.MpsRow.{MpsRow}
+use Rattle.mps_model.specs.declared.model.MpsModel.{MpsModel}
 use Rattle.mps_read.specs.declared.section.Section.{Section}
 use Rattle.mps_read.specs.declared.section.Section.TheVariants.{Name, Objsense, Rows}
 use Rattle.mps_read.specs.declared.draft.RowPlace.TheVariants.{Kept}

@@ -8,19 +8,21 @@ use Rattle.ip_core.specs.Decimals.{Number, IsDecimal, negated}
 use Rattle.ip_core.specs.Prints.{number_text}
 use Rattle.ip_core.proofs.DecimalReduced.{negated_is}
 use Rattle.mps_read.specs.Names.{is_among, place_among, is_long}
-use Rattle.mps_read.specs.Numerals.{zero_decimal, is_numeral, decimal_of, is_zero}
+use Rattle.mps_model.specs.Numbers.{zero_decimal, is_zero}
+use Rattle.mps_read.specs.Numerals.{is_numeral, decimal_of}
 use Rattle.mps_read.specs.Lines.{words_of, is_line_byte}
 use Rattle.mps_read.specs.Forms.{Pair, Head, Values, form_of, words_form, is_end}
 use Rattle.mps_read.specs.Facts.{no_set, is_used, first_given, with_set, with_head}
-use Rattle.mps_read.specs.RowFacts.{fresh, fresh_row, state_at, is_tested, with_value_mark, marked, with_marked, valued, place_of_pair}
+use Rattle.mps_model.specs.Prints.{fresh_row}
+use Rattle.mps_read.specs.RowFacts.{fresh, state_at, is_tested, with_value_mark, marked, with_marked, valued, place_of_pair}
 use Rattle.mps_read.specs.Kinds.{kind_of, rank_of, is_objsense, has_value, values_use}
 use Rattle.mps_read.specs.Readings.{Reading, is_maximise}
 use Rattle.mps_read.specs.Steps.{after, after_head, given, given_pair, with_values_set}
-use Rattle.mps_read.specs.MpsModels.{IsMpsModel, IsMpsRow, IsRange}
-use Rattle.mps_read.specs.Prints.{pair_line, nonzero_line, row_name, section_lines, side_lines, sides_lines, range_line, range_lines}
-use Rattle.mps_read.specs.declared.model.RowKind.TheVariants.{Less}
-use Rattle.mps_read.specs.declared.model.MpsRow.{MpsRow}
-use Rattle.mps_read.specs.declared.model.MpsModel.{MpsModel}
+use Rattle.mps_model.specs.MpsModels.{IsMpsModel, IsMpsRow, IsRange}
+use Rattle.mps_model.specs.Prints.{pair_line, nonzero_line, row_name, section_lines, side_lines, sides_lines, range_line, range_lines}
+use Rattle.mps_model.specs.declared.model.RowKind.TheVariants.{Less}
+use Rattle.mps_model.specs.declared.model.MpsRow.{MpsRow}
+use Rattle.mps_model.specs.declared.model.MpsModel.{MpsModel}
 use Rattle.mps_read.specs.declared.section.Section.{Section}
 use Rattle.mps_read.specs.declared.section.Section.TheVariants.{Columns, Rhs, Ranges}
 use Rattle.mps_read.specs.declared.section.ValueKind.{ValueKind}

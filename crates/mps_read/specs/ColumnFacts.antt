@@ -2,13 +2,14 @@
 use Rattle.std.specs.Prelude.{ℕ, ◌+◌, Bool, true, false, List, [], ◌∷◌, ◌++◌, slice_set, slice_index_or, if◌then◌else◌}
 use Rattle.ip_core.specs.Decimals.{Number, negated}
 use Rattle.mps_read.specs.Names.{is_among, place_among, extended, with_name}
-use Rattle.mps_read.specs.Numerals.{zero_decimal, one_decimal, decimal_of, is_zero, is_infinite}
+use Rattle.mps_model.specs.Numbers.{zero_decimal, is_zero, is_infinite}
+use Rattle.mps_read.specs.Numerals.{one_decimal, decimal_of}
 use Rattle.mps_read.specs.Forms.{Form, Pair, FreeRow, KeptRow, Marker, Entries, BoundLine}
 use Rattle.mps_read.specs.Facts.{after_pairs, is_used, bounds_of}
 use Rattle.mps_read.specs.RowFacts.{row_names_of, row_states_of, place_of_pair}
-use Rattle.mps_read.specs.declared.model.Limit.{Limit}
-use Rattle.mps_read.specs.declared.model.Limit.TheVariants.{Unset, Free, At}
-use Rattle.mps_read.specs.declared.model.MpsCol.{MpsCol}
+use Rattle.mps_model.specs.declared.model.Limit.{Limit}
+use Rattle.mps_model.specs.declared.model.Limit.TheVariants.{Unset, Free, At}
+use Rattle.mps_model.specs.declared.model.MpsCol.{MpsCol}
 use Rattle.mps_read.specs.declared.section.BoundKind.{BoundKind}
 use Rattle.mps_read.specs.declared.section.BoundKind.TheVariants.{Lower, Upper, Fixed, IntegerLower, IntegerUpper, Free as NoSides, NoLower, NoUpper, Binary}
 use Rattle.mps_read.specs.declared.draft.RowPlace.{RowPlace}

@@ -3,8 +3,8 @@ use Rattle.std.specs.Prelude.{ℕ, Bool, true, false, not, List, [], Option, Som
 use Rattle.std.specs.List.{list_all}
 use Rattle.std.specs.Str.{bytes_eq}
 use Rattle.mps_read.specs.Lines.{Words, Zero, One, Two, Three, Four, Five, Many, words_of, fields, has_none, first_word, is_comment, is_data, is_line_byte}
-use Rattle.mps_read.specs.declared.model.RowKind.{RowKind}
-use Rattle.mps_read.specs.declared.model.RowKind.TheVariants.{Less, Greater, Equal}
+use Rattle.mps_model.specs.declared.model.RowKind.{RowKind}
+use Rattle.mps_model.specs.declared.model.RowKind.TheVariants.{Less, Greater, Equal}
 use Rattle.mps_read.specs.declared.section.Section.{Section}
 use Rattle.mps_read.specs.declared.section.Section.TheVariants.{Name, Objsense, Rows, Columns, Rhs, Ranges, Bounds, Endata}
 use Rattle.mps_read.specs.declared.section.ValueKind.{ValueKind}

@@ -13,5 +13,3 @@ pub mod Seen
 pub mod Judges
 pub mod Outcomes
 pub mod KindNumbers
-pub mod MpsModels
-pub mod Prints

@@ -6,7 +6,7 @@ use Rattle.mps_read.specs.Facts.{section_of, has_sense_line_of, name_of, maximis
 use Rattle.mps_read.specs.RowFacts.{row_names_of, row_states_of, objective_of, kept_of, rows_of, constant_of}
 use Rattle.mps_read.specs.ColumnFacts.{column_names_of, cols_of, is_integer_of, marks_of, latest_of}
 use Rattle.mps_read.specs.Kinds.{kind_of}
-use Rattle.mps_read.specs.declared.model.MpsModel.{MpsModel}
+use Rattle.mps_model.specs.declared.model.MpsModel.{MpsModel}
 use Rattle.mps_read.specs.declared.error.MpsKind.{MpsKind}
 use Rattle.mps_read.specs.declared.error.MpsKind.TheVariants.{NoEndata}
 use Rattle.mps_read.specs.declared.draft.Draft.{Draft}

@@ -2,12 +2,14 @@
 use Rattle.std.specs.Prelude.{ℕ, ◌+◌, Bool, true, false, List, [], ◌∷◌, Option, Some, None, slice_set, slice_index_or, if◌then◌else◌}
 use Rattle.ip_core.specs.Decimals.{Number, negated}
 use Rattle.mps_read.specs.Names.{is_among, place_among, extended, with_name}
-use Rattle.mps_read.specs.Numerals.{zero_decimal, decimal_of}
+use Rattle.mps_model.specs.Numbers.{zero_decimal}
+use Rattle.mps_read.specs.Numerals.{decimal_of}
+use Rattle.mps_model.specs.Prints.{fresh_row}
 use Rattle.mps_read.specs.Forms.{Form, Pair, FreeRow, KeptRow, Values}
 use Rattle.mps_read.specs.Facts.{after_pairs, is_used, first_given, values_of}
-use Rattle.mps_read.specs.declared.model.RowKind.{RowKind}
-use Rattle.mps_read.specs.declared.model.RowKind.TheVariants.{Less}
-use Rattle.mps_read.specs.declared.model.MpsRow.{MpsRow}
+use Rattle.mps_model.specs.declared.model.RowKind.{RowKind}
+use Rattle.mps_model.specs.declared.model.RowKind.TheVariants.{Less}
+use Rattle.mps_model.specs.declared.model.MpsRow.{MpsRow}
 use Rattle.mps_read.specs.declared.section.ValueKind.{ValueKind}
 use Rattle.mps_read.specs.declared.section.ValueKind.TheVariants.{Side, Range}
 use Rattle.mps_read.specs.declared.draft.RowPlace.{RowPlace}
@@ -81,10 +83,6 @@ row_states_of (Values kind set first second ∷ before) =
     then after_pairs (mark_pair kind (row_names_of before)) first second (row_states_of before)
     else row_states_of before
 row_states_of (_ ∷ before) = row_states_of before
-
--- a row without values
-abbrev pub fresh_row : RowKind → List ℕ → MpsRow
-fresh_row kind name = record { name = name; kind = kind; rhs = zero_decimal; range = None }
 
 -- a row with a right-hand side or a range
 abbrev pub valued : ValueKind → Number → MpsRow → MpsRow

@@ -5,12 +5,13 @@ use Rattle.mps_read.specs.Names.{is_among, place_among, extended, with_name}
 use Rattle.mps_read.specs.Numerals.{decimal_of}
 use Rattle.mps_read.specs.Forms.{Form, Pair, Blank, Spoilt, Head, UnknownHead, Stray, Miscounted, SenseLine, FreeRow, KeptRow, UntypedRow, Marker, UnknownMarker, Entries, Values, BoundLine, UntypedBound, form_of, is_end}
 use Rattle.mps_read.specs.Facts.{after_pairs, sense_named, first_given, is_used, with_head, with_set}
-use Rattle.mps_read.specs.RowFacts.{fresh, free_place, with_marked, fresh_row, with_value, with_constant, place_of_pair}
+use Rattle.mps_model.specs.Prints.{fresh_row}
+use Rattle.mps_read.specs.RowFacts.{fresh, free_place, with_marked, with_value, with_constant, place_of_pair}
 use Rattle.mps_read.specs.ColumnFacts.{fresh_column, with_coefficient, with_bound, with_mark, with_latest}
 use Rattle.mps_read.specs.Kinds.{kind_of, values_use}
 use Rattle.mps_read.specs.Readings.{Reading, Read, RefusedAt, outcome, model_of}
 use Rattle.mps_read.specs.declared.error.MpsKind.TheVariants.{NoEndata}
-use Rattle.mps_read.specs.declared.model.RowKind.{RowKind}
+use Rattle.mps_model.specs.declared.model.RowKind.{RowKind}
 use Rattle.mps_read.specs.declared.section.Section.{Section}
 use Rattle.mps_read.specs.declared.section.Section.TheVariants.{Name, Objsense, Rows, Columns, Rhs, Ranges, Bounds, Endata}
 use Rattle.mps_read.specs.declared.section.ValueKind.{ValueKind}

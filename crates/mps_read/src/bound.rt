@@ -11,12 +11,12 @@ ghost use Rattle.mps_read.specs.Judges.{Judges};
 use crate::draft::{Draft, Judgement};
 use crate::error::MpsKind;
 use crate::line::Fields;
-use crate::model::{Limit, MpsCol};
 use crate::name::is_long;
 use crate::numeral::{is_infinite, one};
 use crate::section::{BoundKind, bound_named, has_numeral};
 use crate::value::{is_used, name_set};
 use ip_core::{Decimal, List, OutOfMemory};
+use mps_model::{Limit, MpsCol};
 use std::alloc::Global;
 
 /// A number as a low: -10^20 or less stands for none.

@@ -3,11 +3,11 @@ ghost use Rattle.mps_read.specs.Readings.{draft_of};
 ghost use Rattle.mps_read.specs.Facts.{no_set};
 
 use crate::error::MpsKind;
-use crate::model::{MpsCol, MpsRow};
 use crate::name::empty_name;
 use crate::names::Names;
 use crate::section::Section;
 use ip_core::{Decimal, List, Name};
+use mps_model::{MpsCol, MpsRow};
 use std::alloc::Global;
 
 /// What a name in the section of rows stands for: the objective, a row that is dropped, or a row of the model.

@@ -11,12 +11,12 @@ ghost use Rattle.mps_read.specs.Judges.{Judges};
 use crate::draft::{Draft, Judgement, Mark, RowPlace};
 use crate::error::MpsKind;
 use crate::line::{FieldPair, Fields};
-use crate::model::{Limit, MpsCol, MpsEntry};
 use crate::name::{is_long, name_of};
 use crate::numeral::{is_zero, read_numeral};
 use crate::pair::{FoundRow, find_row, is_same_row};
 use crate::section::is_word;
 use ip_core::{Decimal, List, OutOfMemory};
+use mps_model::{Limit, MpsCol, MpsEntry};
 use std::alloc::Global;
 
 /// A column by its number, which is that of the next one where the column is new.

@@ -16,14 +16,11 @@ mod entry;
 mod error;
 mod head;
 mod line;
-mod model;
 mod name;
 mod names;
 mod numeral;
 mod pair;
 mod printer;
-#[cfg(test)]
-mod printer_tests;
 mod reader;
 mod row_line;
 mod section;
@@ -32,6 +29,6 @@ mod tests;
 mod value;
 
 pub use error::{MpsError, MpsKind};
-pub use model::{Limit, MpsCol, MpsEntry, MpsModel, MpsRow, RowKind};
+pub use mps_model::{Limit, MpsCol, MpsEntry, MpsModel, MpsRow, RowKind};
 pub use printer::print;
 pub use reader::read;

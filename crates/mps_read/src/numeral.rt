@@ -1,5 +1,6 @@
 ghost use Rattle.std.specs.Prelude.{◌≡◌, ◌≤◌, ◌<◌, ◌^◌, unsigned_abs, true, false, length, MatchOption, option_map};
-ghost use Rattle.mps_read.specs.Numerals.{is_numeral, decimal_of, is_zero as is_zero_number, is_infinite as is_infinite_number, reaches_infinity, one_decimal};
+ghost use Rattle.mps_model.specs.Numbers.{is_zero as is_zero_number, is_infinite as is_infinite_number, reaches_infinity};
+ghost use Rattle.mps_read.specs.Numerals.{is_numeral, decimal_of, one_decimal};
 ghost use Rattle.mps_read.specs.Kinds.{all_pairs, is_pair_numeral};
 ghost use Rattle.mps_read.specs.Seen.{IsField, IsPair, IsSecond, seen_pair, seen_second};
 

@@ -5,7 +5,7 @@ ghost use Rattle.mps_read.specs.Outcomes.{IsOutcome, IsCause};
 ghost use Rattle.mps_read.specs.Seen.{seen, AreFields};
 ghost use Rattle.mps_read.specs.Judges.{Judges};
 ghost use Rattle.mps_read.specs.Drafts.{IsDraft};
-ghost use Rattle.mps_read.specs.MpsModels.{IsMpsModel};
+ghost use Rattle.mps_model.specs.MpsModels.{IsMpsModel};
 
 use crate::bound::take_bounds;
 use crate::draft::{Draft, Judgement};
@@ -13,12 +13,12 @@ use crate::entry::take_columns;
 use crate::error::{MpsError, MpsKind};
 use crate::head::{take_head, take_sense};
 use crate::line::{Fields, fields_of, is_comment, is_data, is_text, next_line};
-use crate::model::MpsModel;
 use crate::name::empty_name;
 use crate::row_line::take_rows;
 use crate::section::{Section, ValueKind};
 use crate::value::take_values;
 use ip_core::{Name, OutOfMemory};
+use mps_model::MpsModel;
 use std::alloc::Global;
 
 /// What a text is.

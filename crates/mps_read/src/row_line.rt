@@ -8,10 +8,10 @@ ghost use Rattle.mps_read.specs.Judges.{Judges};
 use crate::draft::{Draft, Judgement, RowPlace, RowState};
 use crate::error::MpsKind;
 use crate::line::Fields;
-use crate::model::{MpsRow, RowKind};
 use crate::name::{is_long, name_of};
 use crate::section::{is_word, row_kind_named};
 use ip_core::{Decimal, OutOfMemory};
+use mps_model::{MpsRow, RowKind};
 use std::alloc::Global;
 
 /// Why a row may not have this name, if it may not.

@@ -4,7 +4,7 @@ ghost use Rattle.mps_read.specs.Forms.{section_named as section_of_name, bound_n
 ghost use Rattle.mps_read.specs.Facts.{sense_named as sense_of_name};
 ghost use Rattle.mps_read.specs.Kinds.{rank_of};
 
-use crate::model::RowKind;
+use mps_model::RowKind;
 
 /// A section of a file.
 #[derive(Clone, Copy, Debug, PartialEq, Eq)]

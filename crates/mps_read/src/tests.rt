@@ -1,5 +1,5 @@
-use crate::{Limit, MpsCol, MpsError, MpsKind, MpsModel, MpsRow, RowKind, read};
-use ip_core::{Decimal, OutOfMemory};
+use crate::{Limit, MpsCol, MpsError, MpsKind, MpsModel, MpsRow, RowKind, print, read};
+use ip_core::{Decimal, OutOfMemory, Text};
 use std::alloc::Global;
 use std::test::Fail;
 
@@ -492,5 +492,28 @@ fn reads_models(rt: HostRuntime) -> Result<(), Fail> {
     assert!(rt; is_sets(&sets));
     let bounded = read(rt.alloc(), BOUNDED)?;
     assert!(rt; is_bounded(&bounded));
+    Ok(())
+}
+
+/// The canonical text of what a text is read as, or None where it is refused.
+fn reprinted(alloc: Global, bytes: &[u8]) -> Result<Option<Text>, OutOfMemory> {
+    if bytes.len() > 1_000_000 {
+        return Ok(None);
+    }
+    match read(alloc, bytes) {
+        Ok(model) => Ok(Some(print(alloc, &model)?)),
+        Err(MpsError::Refused { .. }) => Ok(None),
+        Err(MpsError::Memory) => Err(OutOfMemory),
+    }
+}
+
+#[test]
+fn prints_what_was_read(rt: HostRuntime) -> Result<(), Fail> {
+    let text =
+        b"* note\nNAME one\nROWS\n N c\nCOLUMNS\n M 'MARKER' 'INTORG'\n x c 1.0\nRHS\n c -0\nBOUNDS\n UP b x 10e-1\nENDATA\n";
+    let expected =
+        b"NAME one\nROWS\n N c\nCOLUMNS\n M 'MARKER' 'INTORG'\n x c 1\n M 'MARKER' 'INTEND'\nBOUNDS\n UP BND x 1\nENDATA\n";
+    let printed = reprinted(rt.alloc(), text)?;
+    assert!(rt; printed.is_some_and(|text| text.as_slice() == expected));
     Ok(())
 }
