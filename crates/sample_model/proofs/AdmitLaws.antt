@@ -17,9 +17,9 @@ use Rattle.ip_core.specs.Models.{term_count, objective_width}
 use Rattle.ip_core.specs.declared.row.Row.{Row}
 use Rattle.ip_core.specs.declared.row.Term.{Term}
 use Rattle.ip_core.specs.declared.limits.TheConstants.{MAX_COLUMNS, MAX_WIDTH, MAX_DECIMALS}
-use Rattle.mps_read.specs.declared.model.MpsRow.{MpsRow}
-use Rattle.mps_read.specs.declared.model.MpsEntry.{MpsEntry}
-use Rattle.mps_read.specs.declared.model.MpsCol.{MpsCol}
+use Rattle.mps_model.specs.declared.model.MpsRow.{MpsRow}
+use Rattle.mps_model.specs.declared.model.MpsEntry.{MpsEntry}
+use Rattle.mps_model.specs.declared.model.MpsCol.{MpsCol}
 use Rattle.width_admit.specs.declared.error.AdmitError.{AdmitError}
 use Rattle.width_admit.specs.declared.error.AdmitError.TheVariants.{RowTooFine, RowTooWide, ObjectiveTooWide}
 use Rattle.width_admit.specs.Admission.{minimised, first_from, refused_if}

@@ -4,8 +4,8 @@ use Rattle.std.proofs.lemmas.Int.{ints}
 use Rattle.std.proofs.lemmas.List.Elements.{All-nil, All-cons, All-head, All-tail}
 use Rattle.ip_core.specs.Sides.{HasLimits}
 use Rattle.ip_core.specs.declared.limits.TheConstants.{MAX_COLUMNS, MAX_ROWS, MAX_TERMS}
-use Rattle.mps_read.specs.declared.model.MpsEntry.{MpsEntry}
-use Rattle.mps_read.specs.declared.model.MpsModel.{MpsModel}
+use Rattle.mps_model.specs.declared.model.MpsEntry.{MpsEntry}
+use Rattle.mps_model.specs.declared.model.MpsModel.{MpsModel}
 use Rattle.width_admit.specs.Admission.{admitted, refusal, column_refusal, count_refusal, width_refusal, first_column, first_fine, first_wide, has_many_columns, has_many_rows, has_many_terms, has_wide_objective, objective_exponent}
 use Rattle.width_admit.specs.Columns.{root, is_continuous, has_negative_upper, is_unbounded, has_large_bound}
 use Rattle.width_admit.specs.Exact.{units}

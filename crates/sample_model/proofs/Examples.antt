@@ -1,9 +1,9 @@
 use Rattle.std.proofs.Common.{◌≡◌, ◌+◌, ◌/◌, ◌^◌, true, false, [], ◌∷◌, ℤ, pos, negsuc, None, codes, refl}
 use Rattle.std.specs.Fmt.{digits}
 use Rattle.ip_core.specs.Decimals.{Number}
-use Rattle.mps_read.specs.declared.model.Limit.TheVariants.{Unset, At}
-use Rattle.mps_read.specs.declared.model.RowKind.TheVariants.{Less}
-use Rattle.mps_read.specs.Prints.{printed}
+use Rattle.mps_model.specs.declared.model.Limit.TheVariants.{Unset, At}
+use Rattle.mps_model.specs.declared.model.RowKind.TheVariants.{Less}
+use Rattle.mps_model.specs.Prints.{printed}
 use Rattle.sample_model.specs.Draws.{next, drawn}
 use Rattle.sample_model.specs.Wholes.{whole_decimal}
 use Rattle.sample_model.specs.Knapsacks.{knapsack}

@@ -7,7 +7,7 @@ use Rattle.ip_core.specs.Decimals.{is_digit}
 use Rattle.ip_core.specs.Names.{IsName, IsNameByte}
 use Rattle.ip_core.proofs.DecimalDigits.{and_true, le_of_test}
 use Rattle.ip_core.proofs.DecimalPrints.{written_digits}
-use Rattle.mps_read.specs.MpsModels.{IsField, IsRowName, AreDistinct}
+use Rattle.mps_model.specs.MpsModels.{IsField, IsRowName, AreDistinct}
 use Rattle.sample_model.specs.Wholes.{numbered}
 
 -- names of a letter and a number

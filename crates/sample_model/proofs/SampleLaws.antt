@@ -2,10 +2,10 @@ use Rattle.std.proofs.Common.{◌≡◌, ◌≤◌, ◌<◌, ◌+◌, ◌*◌, �
 use Rattle.std.proofs.lemmas.Bool.Decides.{nat_tests}
 use Rattle.std.proofs.lemmas.List.Elements.{All-nil, All-cons, All-head, All-tail}
 use Rattle.ip_core.specs.Names.{IsName, IsNameByte}
-use Rattle.mps_read.specs.MpsModels.{IsRowName, AreDistinct, IsMpsRow, IsMpsEntry, IsMpsCol, IsMpsModel}
-use Rattle.mps_read.specs.declared.model.MpsRow.{MpsRow}
-use Rattle.mps_read.specs.declared.model.MpsEntry.{MpsEntry}
-use Rattle.mps_read.specs.declared.model.MpsCol.{MpsCol}
+use Rattle.mps_model.specs.MpsModels.{IsRowName, AreDistinct, IsMpsRow, IsMpsEntry, IsMpsCol, IsMpsModel}
+use Rattle.mps_model.specs.declared.model.MpsRow.{MpsRow}
+use Rattle.mps_model.specs.declared.model.MpsEntry.{MpsEntry}
+use Rattle.mps_model.specs.declared.model.MpsCol.{MpsCol}
 use Rattle.sample_model.specs.declared.knapsack.Knapsack.{Knapsack}
 use Rattle.sample_model.specs.Draws.{AreAtMost}
 use Rattle.sample_model.specs.Wholes.{whole_decimal, numbered}

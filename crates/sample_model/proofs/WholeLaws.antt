@@ -4,7 +4,7 @@ use Rattle.std.proofs.lemmas.Bool.Decides.{nat_tests}
 use Rattle.std.proofs.lemmas.Int.{ints}
 use Rattle.ip_core.specs.Decimals.{Number, IsDecimal, negated}
 use Rattle.ip_core.proofs.DecimalReduced.{negated_is}
-use Rattle.mps_read.specs.Numerals.{is_zero, is_infinite}
+use Rattle.mps_model.specs.Numbers.{is_zero, is_infinite}
 use Rattle.width_admit.specs.Exact.{floor}
 use Rattle.sample_model.specs.Wholes.{zeros, whole_decimal}
 use Rattle.sample_model.proofs.WholeReads.{whole_parted, whole_positive, zero_or_more, whole_is_decimal}

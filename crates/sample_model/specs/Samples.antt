@@ -1,12 +1,12 @@
 -- Sample models: knapsack rows over small bounds, drawn from one number.
 use Rattle.std.specs.Prelude.{ℕ, ◌+◌, ◌/◌, ◌==◌, true, false, if◌then◌else◌, List, [], ◌∷◌, slice_index_or, None, codes}
 use Rattle.ip_core.specs.Decimals.{negated}
-use Rattle.mps_read.specs.declared.model.Limit.TheVariants.{Unset, At}
-use Rattle.mps_read.specs.declared.model.RowKind.TheVariants.{Less}
-use Rattle.mps_read.specs.declared.model.MpsRow.{MpsRow}
-use Rattle.mps_read.specs.declared.model.MpsEntry.{MpsEntry}
-use Rattle.mps_read.specs.declared.model.MpsCol.{MpsCol}
-use Rattle.mps_read.specs.declared.model.MpsModel.{MpsModel}
+use Rattle.mps_model.specs.declared.model.Limit.TheVariants.{Unset, At}
+use Rattle.mps_model.specs.declared.model.RowKind.TheVariants.{Less}
+use Rattle.mps_model.specs.declared.model.MpsRow.{MpsRow}
+use Rattle.mps_model.specs.declared.model.MpsEntry.{MpsEntry}
+use Rattle.mps_model.specs.declared.model.MpsCol.{MpsCol}
+use Rattle.mps_model.specs.declared.model.MpsModel.{MpsModel}
 use Rattle.sample_model.specs.declared.knapsack.Knapsack.{Knapsack}
 use Rattle.sample_model.specs.Wholes.{whole_decimal, numbered}
 use Rattle.sample_model.specs.Knapsacks.{knapsack, greatest_sum}

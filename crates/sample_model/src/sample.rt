@@ -1,12 +1,12 @@
 ghost use Rattle.std.specs.Prelude.{◌≡◌, ◌≤◌, ◌<◌, ◌^◌, length, IfOk};
-ghost use Rattle.mps_read.specs.MpsModels.{IsMpsModel};
+ghost use Rattle.mps_model.specs.MpsModels.{IsMpsModel};
 ghost use Rattle.sample_model.specs.Knapsacks.{IsKnapsack, IsRow};
 ghost use Rattle.sample_model.specs.Samples.{col_of, cols_of, entries_of, generated, model_of, row_of, rows_of, sample as sample_of};
 
 use crate::knapsack::{Knapsack, draw, greatest_sum};
 use crate::whole::{name, numbered, whole};
 use ip_core::{Decimal, List, OutOfMemory};
-use mps_read::{Limit, MpsCol, MpsEntry, MpsModel, MpsRow, RowKind};
+use mps_model::{Limit, MpsCol, MpsEntry, MpsModel, MpsRow, RowKind};
 use std::alloc::Global;
 
 /// The rows of a sample model.

@@ -1,9 +1,9 @@
 ghost use Rattle.std.specs.Prelude.{◌≡◌, ◌≤◌, ◌^◌, length, IfOk};
-ghost use Rattle.mps_read.specs.MpsModels.{IsMpsModel};
+ghost use Rattle.mps_model.specs.MpsModels.{IsMpsModel};
 
 use crate::{generate, samples_are_admitted};
 use ip_core::OutOfMemory;
-use mps_read::{MpsModel, print};
+use mps_model::{MpsModel, canonical_text};
 use std::alloc::Global;
 use std::test::Fail;
 use width_admit::admit;
@@ -21,7 +21,7 @@ fn place_of(text: &[u8], part: &[u8]) -> usize {
 /// Whether the text of the sample model of a number has this part.
 fn prints(alloc: Global, number: u64, part: &[u8]) -> Result<bool, OutOfMemory> {
     let mps = generate(alloc, number)?;
-    let text = print(alloc, &mps)?;
+    let text = canonical_text(alloc, &mps)?;
     Ok(place_of(text.as_slice(), part) < text.len())
 }
 
@@ -39,7 +39,7 @@ fn checksum(text: &[u8]) -> u64 {
 /// Whether the text of the sample model of a number has so many bytes and this checksum.
 fn has_text(alloc: Global, number: u64, len: usize, sum: u64) -> Result<bool, OutOfMemory> {
     let mps = generate(alloc, number)?;
-    let text = print(alloc, &mps)?;
+    let text = canonical_text(alloc, &mps)?;
     Ok(text.len() == len && checksum(text.as_slice()) == sum)
 }
 

@@ -1,13 +1,13 @@
 use Rattle.std.specs.Prelude.{ℕ, ◌≡◌, ◌^◌, ◌*◌, ◌-◌, ◌+◌, Bool, true, false, List, [], ◌∷◌, Option, Some, None, refl, codes, ℤ, pos, negsuc, replicate}
 use Rattle.ip_core.specs.Decimals.{Number}
-use Rattle.mps_read.specs.declared.model.MpsModel.{MpsModel}
-use Rattle.mps_read.specs.declared.model.MpsRow.{MpsRow}
-use Rattle.mps_read.specs.declared.model.MpsEntry.{MpsEntry}
-use Rattle.mps_read.specs.declared.model.MpsCol.{MpsCol}
-use Rattle.mps_read.specs.declared.model.RowKind.{RowKind}
-use Rattle.mps_read.specs.declared.model.RowKind.TheVariants.{Less, Greater, Equal}
-use Rattle.mps_read.specs.declared.model.Limit.{Limit}
-use Rattle.mps_read.specs.declared.model.Limit.TheVariants.{Unset, Free, At}
+use Rattle.mps_model.specs.declared.model.MpsModel.{MpsModel}
+use Rattle.mps_model.specs.declared.model.MpsRow.{MpsRow}
+use Rattle.mps_model.specs.declared.model.MpsEntry.{MpsEntry}
+use Rattle.mps_model.specs.declared.model.MpsCol.{MpsCol}
+use Rattle.mps_model.specs.declared.model.RowKind.{RowKind}
+use Rattle.mps_model.specs.declared.model.RowKind.TheVariants.{Less, Greater, Equal}
+use Rattle.mps_model.specs.declared.model.Limit.{Limit}
+use Rattle.mps_model.specs.declared.model.Limit.TheVariants.{Unset, Free, At}
 use Rattle.width_admit.specs.declared.error.AdmitError.TheVariants.{Continuous, NegativeUpper, Unbounded, BoundTooLarge, TooManyColumns, RowTooFine, RowTooWide, ObjectiveTooWide}
 use Rattle.width_admit.specs.Admission.{admitted, refusal}
 

@@ -3,7 +3,7 @@ use Rattle.std.proofs.lemmas.Bool.{ltb-false, or_parts}
 use Rattle.std.proofs.lemmas.List.Elements.{All-cons}
 use Rattle.ip_core.specs.Sides.{HasLimits}
 use Rattle.ip_core.specs.declared.limits.TheConstants.{MAX_BOUND}
-use Rattle.mps_read.specs.declared.model.MpsCol.{MpsCol}
+use Rattle.mps_model.specs.declared.model.MpsCol.{MpsCol}
 use Rattle.width_admit.specs.Columns.{low, high, root, is_large, has_large_bound}
 use Rattle.width_admit.specs.Admission.{first_from}
 use Rattle.width_admit.specs.Held.{held}

@@ -2,7 +2,7 @@ use Rattle.std.proofs.Common.{◌≡◌, ◌↔◌, ℕ, ◌^◌, Bool, true, fa
 use Rattle.std.proofs.lemmas.Int.{ints}
 use Rattle.ip_core.specs.Truth.{value_at}
 use Rattle.ip_core.specs.declared.model.ModelParts.{ModelParts}
-use Rattle.mps_read.specs.declared.model.MpsModel.{MpsModel}
+use Rattle.mps_model.specs.declared.model.MpsModel.{MpsModel}
 use Rattle.width_admit.specs.Admission.{Admits, minimised}
 use Rattle.width_admit.specs.FilePoints.{IsNoWorse, file_objective}
 use Rattle.width_admit.specs.Laws.{AdmissionKeepsAnswers}

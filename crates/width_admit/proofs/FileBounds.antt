@@ -10,10 +10,10 @@ use Rattle.ip_core.specs.Decimals.{Number, negated}
 use Rattle.ip_core.specs.Numbers.{int_at}
 use Rattle.ip_core.specs.Sides.{IsInside}
 use Rattle.ip_core.proofs.Quotients.{le-int_div_euclid}
-use Rattle.mps_read.specs.declared.model.Limit.{Limit}
-use Rattle.mps_read.specs.declared.model.Limit.TheVariants.{Unset, Free, At}
-use Rattle.mps_read.specs.declared.model.MpsCol.{MpsCol}
-use Rattle.mps_read.specs.MpsModels.{IsMpsCol, IsLow, IsHigh}
+use Rattle.mps_model.specs.declared.model.Limit.{Limit}
+use Rattle.mps_model.specs.declared.model.Limit.TheVariants.{Unset, Free, At}
+use Rattle.mps_model.specs.declared.model.MpsCol.{MpsCol}
+use Rattle.mps_model.specs.MpsModels.{IsMpsCol, IsLow, IsHigh}
 use Rattle.width_admit.specs.Exact.{units, rounded_down, floor, ceiling}
 use Rattle.width_admit.specs.Columns.{low, high, root, is_free, lacks_high, is_unbounded}
 use Rattle.width_admit.specs.Admission.{first_from}

@@ -3,9 +3,9 @@ use Rattle.std.proofs.lemmas.List.{length-map}
 use Rattle.ip_core.specs.Rows.{AreMet}
 use Rattle.ip_core.specs.Truth.{IsFeasible}
 use Rattle.ip_core.specs.declared.model.ModelParts.{ModelParts}
-use Rattle.mps_read.specs.declared.model.MpsCol.{MpsCol}
-use Rattle.mps_read.specs.declared.model.MpsModel.{MpsModel}
-use Rattle.mps_read.specs.MpsModels.{IsMpsModel}
+use Rattle.mps_model.specs.declared.model.MpsCol.{MpsCol}
+use Rattle.mps_model.specs.declared.model.MpsModel.{MpsModel}
+use Rattle.mps_model.specs.MpsModels.{IsMpsModel}
 use Rattle.width_admit.specs.Admission.{Admits, admitted}
 use Rattle.width_admit.specs.FilePoints.{AreFileRowsMet, IsSolution}
 use Rattle.width_admit.specs.Laws.{AdmissionKeepsRows, AdmissionKeepsPoints}

@@ -9,11 +9,11 @@ use Rattle.ip_core.specs.declared.row.Row.{Row}
 use Rattle.ip_core.specs.declared.row.Term.{Term}
 use Rattle.ip_core.proofs.IntSums.{int_sum_by-append}
 use Rattle.ip_core.proofs.IntProducts.{add_mul}
-use Rattle.mps_read.specs.declared.model.RowKind.{RowKind}
-use Rattle.mps_read.specs.declared.model.RowKind.TheVariants.{Less, Greater, Equal}
-use Rattle.mps_read.specs.declared.model.MpsEntry.{MpsEntry}
-use Rattle.mps_read.specs.declared.model.MpsCol.{MpsCol}
-use Rattle.mps_read.specs.declared.model.MpsRow.{MpsRow}
+use Rattle.mps_model.specs.declared.model.RowKind.{RowKind}
+use Rattle.mps_model.specs.declared.model.RowKind.TheVariants.{Less, Greater, Equal}
+use Rattle.mps_model.specs.declared.model.MpsEntry.{MpsEntry}
+use Rattle.mps_model.specs.declared.model.MpsCol.{MpsCol}
+use Rattle.mps_model.specs.declared.model.MpsRow.{MpsRow}
 use Rattle.width_admit.specs.Exact.{units, is_whole, whole, are_whole, least_from, exponent_of}
 use Rattle.width_admit.specs.Sides.{sides, exact_sides}
 use Rattle.width_admit.specs.ExactRows.{ExactRow, entry_terms, exact_terms, exact_row, row_exponent, whole_terms, negated_terms, whole_side, lower_rows, upper_rows, admitted_rows, rows_from}

@@ -7,8 +7,8 @@ use Rattle.ip_core.specs.Truth.{value_at}
 use Rattle.ip_core.specs.declared.model.ModelParts.{ModelParts}
 use Rattle.ip_core.specs.declared.limits.TheConstants.{MAX_DECIMALS}
 use Rattle.ip_core.proofs.ColumnSums.{int_sum_below-same}
-use Rattle.mps_read.specs.declared.model.MpsCol.{MpsCol}
-use Rattle.mps_read.specs.declared.model.MpsModel.{MpsModel}
+use Rattle.mps_model.specs.declared.model.MpsCol.{MpsCol}
+use Rattle.mps_model.specs.declared.model.MpsModel.{MpsModel}
 use Rattle.width_admit.specs.Exact.{units, is_whole, whole, are_whole}
 use Rattle.width_admit.specs.Admission.{admitted, exact_costs, objective_exponent, minimised, whole_constant}
 use Rattle.width_admit.specs.FilePoints.{sum_from, file_objective}

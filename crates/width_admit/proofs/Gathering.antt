@@ -2,8 +2,8 @@ use Rattle.std.proofs.Common.{◌≡◌, ◌∙◌, ◌⊎◌, inl, inr, ℕ, �
 use Rattle.std.proofs.lemmas.List.{take_more, length-take-le, length-set, get_or-set_same, get_or-set_other}
 use Rattle.std.proofs.lemmas.Bool.{cases_eq, ne_eqb, eq-eqb}
 use Rattle.ip_core.specs.declared.row.Term.{Term}
-use Rattle.mps_read.specs.declared.model.MpsCol.{MpsCol}
-use Rattle.mps_read.specs.declared.model.MpsEntry.{MpsEntry}
+use Rattle.mps_model.specs.declared.model.MpsCol.{MpsCol}
+use Rattle.mps_model.specs.declared.model.MpsEntry.{MpsEntry}
 use Rattle.width_admit.specs.declared.gather.Coefficient.{Coefficient}
 use Rattle.width_admit.specs.Exact.{units}
 use Rattle.width_admit.specs.ExactRows.{exact_terms, entry_terms}

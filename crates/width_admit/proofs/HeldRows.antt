@@ -10,9 +10,9 @@ use Rattle.ip_core.specs.Rows.{term_width, row_width}
 use Rattle.ip_core.specs.declared.row.Row.{Row}
 use Rattle.ip_core.specs.declared.row.Term.{Term}
 use Rattle.ip_core.specs.declared.limits.TheConstants.{MAX_WIDTH}
-use Rattle.mps_read.specs.declared.model.RowKind.{RowKind}
-use Rattle.mps_read.specs.declared.model.RowKind.TheVariants.{Less, Greater, Equal}
-use Rattle.mps_read.specs.declared.model.MpsRow.{MpsRow}
+use Rattle.mps_model.specs.declared.model.RowKind.{RowKind}
+use Rattle.mps_model.specs.declared.model.RowKind.TheVariants.{Less, Greater, Equal}
+use Rattle.mps_model.specs.declared.model.MpsRow.{MpsRow}
 use Rattle.width_admit.specs.declared.sides.RowSides.{RowSides}
 use Rattle.width_admit.specs.Exact.{units, whole, is_whole, are_whole}
 use Rattle.width_admit.specs.Sides.{sides, exact_sides}

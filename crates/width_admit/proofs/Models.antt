@@ -6,9 +6,9 @@ use Rattle.ip_core.specs.Sides.{Sides}
 use Rattle.ip_core.specs.Rows.{IsTerm}
 use Rattle.ip_core.specs.Models.{IsModel, term_count}
 use Rattle.ip_core.specs.declared.limits.TheConstants.{MAX_COLUMNS, MAX_ROWS, MAX_TERMS, MAX_WIDTH, MAX_DECIMALS}
-use Rattle.mps_read.specs.MpsModels.{IsMpsModel, IsMpsCol}
-use Rattle.mps_read.specs.declared.model.MpsModel.{MpsModel}
-use Rattle.mps_read.specs.declared.model.MpsCol.{MpsCol}
+use Rattle.mps_model.specs.MpsModels.{IsMpsModel, IsMpsCol}
+use Rattle.mps_model.specs.declared.model.MpsModel.{MpsModel}
+use Rattle.mps_model.specs.declared.model.MpsCol.{MpsCol}
 use Rattle.width_admit.specs.declared.error.AdmitError.{AdmitError}
 use Rattle.width_admit.specs.declared.error.AdmitError.TheVariants.{Continuous, NegativeUpper, Unbounded, BoundTooLarge, TooManyColumns, TooManyRows, TooManyTerms, RowTooFine, RowTooWide, ObjectiveTooWide}
 use Rattle.width_admit.specs.declared.gather.Coefficient.{Coefficient}

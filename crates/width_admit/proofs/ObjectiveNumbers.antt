@@ -4,7 +4,7 @@ use Rattle.std.proofs.lemmas.Bool.{and_parts}
 use Rattle.std.proofs.Math.Seq.{drop-cons}
 use Rattle.std.proofs.Math.ListN.{drop_of_length-le}
 use Rattle.ip_core.specs.Sides.{Sides, reach}
-use Rattle.mps_read.specs.declared.model.MpsCol.{MpsCol}
+use Rattle.mps_model.specs.declared.model.MpsCol.{MpsCol}
 use Rattle.width_admit.specs.Exact.{units, is_whole, are_whole}
 use Rattle.width_admit.specs.Admission.{exact_costs}
 use Rattle.width_admit.specs.Held.{IsFinest, held_whole, costs_width_from}

@@ -7,7 +7,7 @@ use Rattle.ip_core.specs.Sides.{Sides, reach}
 use Rattle.ip_core.specs.Rows.{part_width}
 use Rattle.ip_core.specs.Models.{objective_width}
 use Rattle.ip_core.specs.declared.limits.TheConstants.{MAX_WIDTH}
-use Rattle.mps_read.specs.declared.model.MpsCol.{MpsCol}
+use Rattle.mps_model.specs.declared.model.MpsCol.{MpsCol}
 use Rattle.width_admit.specs.Exact.{units, whole}
 use Rattle.width_admit.specs.Admission.{minimised}
 use Rattle.width_admit.specs.Held.{held, held_whole, costs_width_from}

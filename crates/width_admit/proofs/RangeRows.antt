@@ -1,5 +1,5 @@
 use Rattle.std.specs.Prelude.{◌≡◌, pos, negsuc, Some, None, refl}
-use Rattle.mps_read.specs.declared.model.RowKind.TheVariants.{Less, Greater, Equal}
+use Rattle.mps_model.specs.declared.model.RowKind.TheVariants.{Less, Greater, Equal}
 use Rattle.width_admit.specs.Sides.{sides}
 
 -- the sides of rows with right-hand side 5, without a range and with ranges of either sign and 0

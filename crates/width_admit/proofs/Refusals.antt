@@ -5,14 +5,14 @@ use Rattle.std.proofs.lemmas.List.Sums.{sum_by-cons, sum_by-append}
 use Rattle.ip_core.specs.Models.{term_count}
 use Rattle.ip_core.specs.declared.row.Row.{Row}
 use Rattle.ip_core.specs.declared.row.Term.{Term}
-use Rattle.mps_read.specs.declared.model.MpsCol.{MpsCol}
-use Rattle.mps_read.specs.declared.model.MpsRow.{MpsRow}
+use Rattle.mps_model.specs.declared.model.MpsCol.{MpsCol}
+use Rattle.mps_model.specs.declared.model.MpsRow.{MpsRow}
 use Rattle.width_admit.specs.declared.error.AdmitError.{AdmitError}
 use Rattle.width_admit.specs.declared.error.AdmitError.TheVariants.{Continuous, NegativeUpper, Unbounded, BoundTooLarge, TooManyColumns, TooManyRows, TooManyTerms, RowTooFine, RowTooWide, ObjectiveTooWide, Memory}
 use Rattle.width_admit.specs.declared.gather.Coefficient.{Coefficient}
 use Rattle.width_admit.specs.Sides.{exact_sides, side_count}
 use Rattle.width_admit.specs.ExactRows.{ExactRow, exact_terms, exact_row, row_exponent, whole_terms, negated_term, whole_side, rows_of, admitted_rows, rows_from}
-use Rattle.mps_read.specs.declared.model.MpsModel.{MpsModel}
+use Rattle.mps_model.specs.declared.model.MpsModel.{MpsModel}
 use Rattle.width_admit.specs.KindNumbers.{kind_of, index_of}
 use Rattle.width_admit.specs.Admission.{first_from, refused_if, refusal, IsCause, IsNotAdmitted}
 use Rattle.width_admit.specs.Gathered.{exact, AreGathered}

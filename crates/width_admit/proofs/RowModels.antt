@@ -12,8 +12,8 @@ use Rattle.ip_core.specs.declared.row.Row.{Row}
 use Rattle.ip_core.specs.declared.row.Term.{Term}
 use Rattle.ip_core.specs.declared.limits.TheConstants.{MAX_WIDTH}
 use Rattle.width_admit.specs.Gathered.{IsColumn}
-use Rattle.mps_read.specs.declared.model.MpsCol.{MpsCol}
-use Rattle.mps_read.specs.declared.model.MpsRow.{MpsRow}
+use Rattle.mps_model.specs.declared.model.MpsCol.{MpsCol}
+use Rattle.mps_model.specs.declared.model.MpsRow.{MpsRow}
 use Rattle.width_admit.specs.Exact.{is_whole, whole, are_whole, least_from, exponent_of}
 use Rattle.width_admit.specs.ExactRows.{ExactRow, exact_row, row_exponent, negated_term, negated_terms, whole_term, whole_terms, whole_side, rows_of, admitted_rows, rows_from, is_too_wide}
 use Rattle.width_admit.specs.Admission.{first_from}

@@ -8,11 +8,11 @@ use Rattle.std.proofs.Math.Nat.{mul-pos}
 use Rattle.ip_core.specs.Decimals.{Number}
 use Rattle.ip_core.specs.Rows.{IsTerm}
 use Rattle.ip_core.specs.declared.row.Term.{Term}
-use Rattle.mps_read.specs.Numerals.{is_zero, is_zero_int}
-use Rattle.mps_read.specs.MpsModels.{IsMpsEntry, AreDistinct}
+use Rattle.mps_model.specs.Numbers.{is_zero, is_zero_int}
+use Rattle.mps_model.specs.MpsModels.{IsMpsEntry, AreDistinct}
 use Rattle.width_admit.specs.Gathered.{IsColumn}
-use Rattle.mps_read.specs.declared.model.MpsEntry.{MpsEntry}
-use Rattle.mps_read.specs.declared.model.MpsCol.{MpsCol}
+use Rattle.mps_model.specs.declared.model.MpsEntry.{MpsEntry}
+use Rattle.mps_model.specs.declared.model.MpsCol.{MpsCol}
 use Rattle.width_admit.specs.Exact.{units}
 use Rattle.width_admit.specs.ExactRows.{entry_terms, exact_terms}
 use Rattle.width_admit.proofs.Decimals.{ten_pow_pos}

@@ -1,11 +1,11 @@
 use Rattle.std.proofs.Common.{◌≡◌, ◌+◌, ◌-◌, ◌*◌, ◌^◌, true, false, List, [], ◌∷◌, ℤ, pos, negsuc, Some, None, refl, arith, codes}
 use Rattle.std.proofs.lemmas.Int.{ints}
 use Rattle.ip_core.specs.Decimals.{Number}
-use Rattle.mps_read.specs.declared.model.MpsModel.{MpsModel}
-use Rattle.mps_read.specs.declared.model.MpsRow.{MpsRow}
-use Rattle.mps_read.specs.declared.model.MpsCol.{MpsCol}
-use Rattle.mps_read.specs.declared.model.RowKind.TheVariants.{Less, Greater, Equal}
-use Rattle.mps_read.specs.declared.model.Limit.TheVariants.{Unset, At}
+use Rattle.mps_model.specs.declared.model.MpsModel.{MpsModel}
+use Rattle.mps_model.specs.declared.model.MpsRow.{MpsRow}
+use Rattle.mps_model.specs.declared.model.MpsCol.{MpsCol}
+use Rattle.mps_model.specs.declared.model.RowKind.TheVariants.{Less, Greater, Equal}
+use Rattle.mps_model.specs.declared.model.Limit.TheVariants.{Unset, At}
 use Rattle.width_admit.specs.FilePoints.{IsAllowed, IsBelowHigh, IsAboveLow, IsSolution, row_sum, file_objective}
 
 -- what a small file says of points: 0.5 x + y from 0.5 to 1.25, x from 0 to 2.5 and y from -1.5 to a given 9, at costs of 1.5

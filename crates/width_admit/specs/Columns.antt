@@ -2,9 +2,9 @@
 use Rattle.std.specs.Prelude.{ℕ, Bool, true, false, not, ◌&&◌, ◌||◌, nat_lt, int_lt, List, map, ℤ, pos, unsigned_abs, Option, Some, None}
 use Rattle.ip_core.specs.Sides.{Sides}
 use Rattle.ip_core.specs.declared.limits.TheConstants.{MAX_BOUND}
-use Rattle.mps_read.specs.declared.model.Limit.{Limit}
-use Rattle.mps_read.specs.declared.model.Limit.TheVariants.{Unset, Free, At}
-use Rattle.mps_read.specs.declared.model.MpsCol.{MpsCol}
+use Rattle.mps_model.specs.declared.model.Limit.{Limit}
+use Rattle.mps_model.specs.declared.model.Limit.TheVariants.{Unset, Free, At}
+use Rattle.mps_model.specs.declared.model.MpsCol.{MpsCol}
 use Rattle.width_admit.specs.Exact.{floor, ceiling}
 
 -- the low in whole numbers: 0 where the file says nothing, and a number rounded up

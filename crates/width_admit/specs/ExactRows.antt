@@ -6,9 +6,9 @@ use Rattle.ip_core.specs.Rows.{row_width}
 use Rattle.ip_core.specs.declared.row.Row.{Row}
 use Rattle.ip_core.specs.declared.row.Term.{Term}
 use Rattle.ip_core.specs.declared.limits.TheConstants.{MAX_WIDTH, MAX_DECIMALS}
-use Rattle.mps_read.specs.declared.model.MpsEntry.{MpsEntry}
-use Rattle.mps_read.specs.declared.model.MpsCol.{MpsCol}
-use Rattle.mps_read.specs.declared.model.MpsRow.{MpsRow}
+use Rattle.mps_model.specs.declared.model.MpsEntry.{MpsEntry}
+use Rattle.mps_model.specs.declared.model.MpsCol.{MpsCol}
+use Rattle.mps_model.specs.declared.model.MpsRow.{MpsRow}
 use Rattle.width_admit.specs.Exact.{units, whole, exponent_of}
 use Rattle.width_admit.specs.declared.sides.RowSides.{RowSides}
 use Rattle.width_admit.specs.Sides.{exact_sides}

@@ -1,9 +1,9 @@
 -- The coefficients of each row, gathered from the columns.
 use Rattle.std.specs.Prelude.{ℕ, ◌≡◌, ◌<◌, List, [], ◌++◌, length, map, slice_index_or, All}
 use Rattle.ip_core.specs.declared.row.Term.{Term}
-use Rattle.mps_read.specs.declared.model.MpsCol.{MpsCol}
-use Rattle.mps_read.specs.declared.model.MpsEntry.{MpsEntry}
-use Rattle.mps_read.specs.MpsModels.{IsMpsEntry, AreDistinct}
+use Rattle.mps_model.specs.declared.model.MpsCol.{MpsCol}
+use Rattle.mps_model.specs.declared.model.MpsEntry.{MpsEntry}
+use Rattle.mps_model.specs.MpsModels.{IsMpsEntry, AreDistinct}
 use Rattle.width_admit.specs.declared.gather.Coefficient.{Coefficient}
 use Rattle.width_admit.specs.Exact.{units}
 use Rattle.width_admit.specs.ExactRows.{exact_terms, entry_terms}

@@ -3,8 +3,8 @@ use Rattle.std.specs.Prelude.{ℕ, ◌≡◌, ◌≤◌, ◌+◌, ◌*◌, ◌<�
 use Rattle.ip_core.specs.Decimals.{Number, signed}
 use Rattle.ip_core.specs.declared.row.Row.{Row}
 use Rattle.ip_core.specs.declared.row.Term.{Term}
-use Rattle.mps_read.specs.declared.model.MpsRow.{MpsRow}
-use Rattle.mps_read.specs.declared.model.MpsCol.{MpsCol}
+use Rattle.mps_model.specs.declared.model.MpsRow.{MpsRow}
+use Rattle.mps_model.specs.declared.model.MpsCol.{MpsCol}
 use Rattle.width_admit.specs.declared.scale.TheConstants.{CAP}
 use Rattle.width_admit.specs.declared.sides.RowSides.{RowSides}
 use Rattle.width_admit.specs.Exact.{units, whole, are_whole}

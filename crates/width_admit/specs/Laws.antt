@@ -3,8 +3,8 @@ use Rattle.std.specs.Prelude.{ℕ, ◌≡◌, ◌↔◌, ◌^◌, List, ℤ, pos
 use Rattle.ip_core.specs.Rows.{AreMet}
 use Rattle.ip_core.specs.Truth.{IsFeasible, IsBest, HasNoPoint, value_at}
 use Rattle.ip_core.specs.declared.model.ModelParts.{ModelParts}
-use Rattle.mps_read.specs.MpsModels.{IsMpsModel}
-use Rattle.mps_read.specs.declared.model.MpsModel.{MpsModel}
+use Rattle.mps_model.specs.MpsModels.{IsMpsModel}
+use Rattle.mps_model.specs.declared.model.MpsModel.{MpsModel}
 use Rattle.width_admit.specs.Admission.{Admits, minimised}
 use Rattle.width_admit.specs.FilePoints.{AreFileRowsMet, IsSolution, IsBestSolution, HasNoSolution, file_objective}
 

@@ -1,5 +1,5 @@
 use Rattle.std.specs.Prelude.{ℕ, ◌≡◌, Option, Some}
-use Rattle.mps_read.specs.declared.model.MpsModel.{MpsModel}
+use Rattle.mps_model.specs.declared.model.MpsModel.{MpsModel}
 use Rattle.width_admit.specs.declared.admission.Outcome.{Outcome}
 use Rattle.width_admit.specs.declared.admission.Outcome.TheVariants.{Admitted, Refused}
 use Rattle.width_admit.specs.Admission.{Admits, refusal}

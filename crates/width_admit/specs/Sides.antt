@@ -1,8 +1,8 @@
 -- The sides of a row of a file.
 use Rattle.std.specs.Prelude.{ℕ, ℤ, pos, negsuc, ◌+ℤ◌, ◌-ℤ◌, unsigned_abs, Option, Some, None, option_map, option_to_list, length, ◌++◌}
-use Rattle.mps_read.specs.declared.model.RowKind.{RowKind}
-use Rattle.mps_read.specs.declared.model.RowKind.TheVariants.{Less, Greater, Equal}
-use Rattle.mps_read.specs.declared.model.MpsRow.{MpsRow}
+use Rattle.mps_model.specs.declared.model.RowKind.{RowKind}
+use Rattle.mps_model.specs.declared.model.RowKind.TheVariants.{Less, Greater, Equal}
+use Rattle.mps_model.specs.declared.model.MpsRow.{MpsRow}
 use Rattle.width_admit.specs.declared.sides.RowSides.{RowSides}
 use Rattle.width_admit.specs.Exact.{units}
 

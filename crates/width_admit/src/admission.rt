@@ -9,7 +9,7 @@ use crate::columns::root_of;
 use crate::gather::gather;
 use crate::refuse::{column_refusal, count_refusal, width_refusal};
 use ip_core::{Model, OutOfMemory};
-use mps_read::MpsModel;
+use mps_model::MpsModel;
 use std::alloc::Global;
 
 /// What becomes of a file's model.

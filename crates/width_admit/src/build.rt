@@ -8,7 +8,7 @@ use crate::gather::Coefficient;
 use crate::objective::{constant_of, costs_of, objective_exponent};
 use crate::rows::push_rows;
 use ip_core::{Bounds, List, ModelParts, Name, OutOfMemory, Row};
-use mps_read::{MpsCol, MpsModel};
+use mps_model::{MpsCol, MpsModel};
 use std::alloc::Global;
 
 /// Another name of the same bytes.

@@ -5,7 +5,7 @@ ghost use Rattle.width_admit.specs.Held.{held, has_fault as has_fault_of};
 
 use crate::scale::{ceiling, floor};
 use ip_core::{Bounds, List, MAX_BOUND, OutOfMemory};
-use mps_read::{Limit, MpsCol};
+use mps_model::{Limit, MpsCol};
 use std::alloc::Global;
 
 /// What refuses a column.

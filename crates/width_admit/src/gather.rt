@@ -2,7 +2,7 @@ ghost use Rattle.std.specs.Prelude.{◌≡◌, ◌≤◌, ◌<◌, ◌^◌, [], 
 ghost use Rattle.width_admit.specs.Gathered.{AreColumns, AreGathered};
 
 use ip_core::{Decimal, List, OutOfMemory};
-use mps_read::MpsCol;
+use mps_model::MpsCol;
 use std::alloc::Global;
 
 /// A coefficient of a row, not yet a whole number.

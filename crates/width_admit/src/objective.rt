@@ -8,7 +8,7 @@ ghost use Rattle.width_admit.specs.Held.{IsFinest, held_whole, costs_width as co
 use crate::rows::{reach, turned};
 use crate::scale::{decimals, scaled};
 use ip_core::{Bounds, List, OutOfMemory};
-use mps_read::{MpsCol, MpsModel};
+use mps_model::{MpsCol, MpsModel};
 use std::alloc::Global;
 
 /// How many decimals costs have.

@@ -14,7 +14,7 @@ use crate::objective::{objective_exponent, objective_width};
 use crate::rows::{is_too_wide, row_exponent};
 use crate::sides::side_count;
 use ip_core::{Bounds, List, MAX_COLUMNS, MAX_DECIMALS, MAX_ROWS, MAX_TERMS, MAX_WIDTH};
-use mps_read::{MpsModel, MpsRow};
+use mps_model::{MpsModel, MpsRow};
 
 /// Why a column refuses the model, if one does.
 pub fn column_refusal(mps: &MpsModel, upper: Option<u32>) -> Option<AdmitError>

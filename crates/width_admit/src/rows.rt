@@ -11,7 +11,7 @@ use crate::gather::Coefficient;
 use crate::scale::{CAP, decimals, scaled};
 use crate::sides::{RowSides, scaled_sides, side_decimals};
 use ip_core::{Bounds, List, MAX_WIDTH, OutOfMemory, Row, Term};
-use mps_read::MpsRow;
+use mps_model::MpsRow;
 use std::alloc::Global;
 
 /// How many decimals coefficients have.

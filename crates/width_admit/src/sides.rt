@@ -4,7 +4,7 @@ ghost use Rattle.width_admit.specs.Sides.{exact_sides, sides, side_count as side
 ghost use Rattle.width_admit.specs.Held.{held_sides, IsFinest};
 
 use crate::scale::{CAP, decimals, scaled};
-use mps_read::{MpsRow, RowKind};
+use mps_model::{MpsRow, RowKind};
 
 /// What a row's sum is at least and at most.
 #[derive(Clone, Copy, Debug, PartialEq, Eq)]

@@ -3,7 +3,8 @@ ghost use Rattle.width_admit.specs.Gathered.{AreColumns};
 
 use crate::{AdmitError, admit};
 use ip_core::{Model, OutOfMemory, Term, Text, decimal};
-use mps_read::{MpsModel, read};
+use mps_model::MpsModel;
+use mps_read::read;
 use std::alloc::Global;
 use std::test::Fail;
 

@@ -1,5 +1,5 @@
 use Rattle.std.proofs.Common.{◌≢◌, ℕ, Option, Err, refl}
-use Rattle.mps_read.specs.declared.model.MpsModel.{MpsModel}
+use Rattle.mps_model.specs.declared.model.MpsModel.{MpsModel}
 use Rattle.width_admit.specs.Admission.{IsCause}
 use Rattle.width_admit.specs.declared.error.AdmitError.{AdmitError}
 use Rattle.width_admit.specs.declared.error.AdmitError.TheVariants.{Continuous, NegativeUpper, Unbounded, BoundTooLarge, TooManyColumns, TooManyRows, TooManyTerms, RowTooFine, RowTooWide, ObjectiveTooWide, Memory}

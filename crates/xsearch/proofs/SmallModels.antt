@@ -7,7 +7,7 @@ use Rattle.mps_read.specs.Drafts.{IsDraft}
 use Rattle.mps_read.specs.Steps.{after, run}
 use Rattle.mps_read.specs.Readings.{Reading, Read, RefusedAt, Reads, outcome, draft_of, model_of}
 use Rattle.mps_read.specs.declared.error.MpsKind.{MpsKind}
-use Rattle.mps_read.specs.declared.model.MpsModel.{MpsModel}
+use Rattle.mps_model.specs.declared.model.MpsModel.{MpsModel}
 use Rattle.mps_read.specs.declared.draft.Draft.{Draft}
 use Rattle.mps_read.proofs.Bridge.{begins}
 use Rattle.mps_read.proofs.Kept.{after_kept, after_few, first_kept}

@@ -3,8 +3,8 @@ use Rattle.std.proofs.Common.{◌≡◌, ℕ, ◌^◌, Bool, true, false, if◌t
 use Rattle.std.proofs.lemmas.Int.{ints}
 use Rattle.ip_core.specs.Truth.{value_at}
 use Rattle.ip_core.specs.declared.model.ModelParts.{ModelParts}
-use Rattle.mps_read.specs.MpsModels.{IsMpsModel}
-use Rattle.mps_read.specs.declared.model.MpsModel.{MpsModel}
+use Rattle.mps_model.specs.MpsModels.{IsMpsModel}
+use Rattle.mps_model.specs.declared.model.MpsModel.{MpsModel}
 use Rattle.plain_tasks.specs.Sound.{IsFound}
 use Rattle.plain_tasks.specs.Truth.{IsTrueAnswer, IsTrueStatus}
 use Rattle.plain_tasks.specs.declared.answer.Answer.{Answer}

@@ -1,8 +1,8 @@
 -- The cause of what a command found.
 use Rattle.std.specs.Prelude.{ℕ, ◌≡◌, List, Option, Some, None, Result, Ok, Err}
 use Rattle.ip_core.specs.declared.model.ModelParts.{ModelParts}
-use Rattle.mps_read.specs.Prints.{printed}
-use Rattle.mps_read.specs.declared.model.MpsModel.{MpsModel}
+use Rattle.mps_model.specs.Prints.{printed}
+use Rattle.mps_model.specs.declared.model.MpsModel.{MpsModel}
 use Rattle.plain_tasks.specs.LimitCauses.{HasLimitCause}
 use Rattle.plain_tasks.specs.Truth.{IsTrueAnswer}
 use Rattle.width_admit.specs.Admission.{Admits, refusal}

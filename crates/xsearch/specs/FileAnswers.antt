@@ -1,7 +1,7 @@
 -- What an answer says of a file's model, by the file's own bounds, rows and objective.
 use Rattle.std.specs.Prelude.{ℕ, ◌≡◌, ◌^◌, pos, ◌*ℤ◌, Option, Some, None}
 use Rattle.ip_core.specs.declared.model.ModelParts.{ModelParts}
-use Rattle.mps_read.specs.declared.model.MpsModel.{MpsModel}
+use Rattle.mps_model.specs.declared.model.MpsModel.{MpsModel}
 use Rattle.plain_tasks.specs.declared.answer.Answer.{Answer}
 use Rattle.plain_tasks.specs.declared.answer.Status.{Status}
 use Rattle.plain_tasks.specs.declared.answer.Status.TheVariants.{Optimal, Infeasible, StoreLimit, WorkLimit}

@@ -1,7 +1,7 @@
 -- What becomes of the model file of a name.
 use Rattle.std.specs.Prelude.{ℕ, ◌≡◌, ◌≤◌, ◌^◌, List, length, Result, Err}
 use Rattle.mps_read.specs.Readings.{Reads, IsRefused}
-use Rattle.mps_read.specs.declared.model.MpsModel.{MpsModel}
+use Rattle.mps_model.specs.declared.model.MpsModel.{MpsModel}
 use Rattle.mps_read.specs.declared.error.MpsKind.{MpsKind}
 use Rattle.xsearch_words.specs.Faults.{HasFailed, failed_read}
 use Rattle.xsearch.specs.Shelves.{ShelfState, IsFile, IsLongFile}

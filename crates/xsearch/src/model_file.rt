@@ -1,5 +1,5 @@
 ghost use Rattle.std.specs.Prelude.{◌≡◌, ◌≤◌, length, IfOk, MatchResult};
-ghost use Rattle.mps_read.specs.MpsModels.{IsMpsModel};
+ghost use Rattle.mps_model.specs.MpsModels.{IsMpsModel};
 ghost use Rattle.mps_read.specs.Outcomes.{IsCause};
 ghost use Rattle.mps_read.specs.Readings.{Reads};
 ghost use Rattle.xsearch.specs.ModelFiles.{IsModelFile, IsSmall, IsUnread};

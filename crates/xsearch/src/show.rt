@@ -1,5 +1,5 @@
 ghost use Rattle.std.specs.Prelude.{◌≡◌};
-ghost use Rattle.mps_read.specs.MpsModels.{IsMpsModel};
+ghost use Rattle.mps_model.specs.MpsModels.{IsMpsModel};
 ghost use Rattle.xsearch.specs.Causes.{IsCausedBy, IsPrinted};
 ghost use Rattle.xsearch.specs.ModelFiles.{IsOfFile};
 ghost use Rattle.xsearch.specs.Runs.{Runs};
