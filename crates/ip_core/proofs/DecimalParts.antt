@@ -3,7 +3,7 @@ use Rattle.std.specs.List.{list_all, prefix_len}
 use Rattle.std.proofs.lemmas.List.{length-append, length-drop}
 use Rattle.std.proofs.lemmas.List.Sums.{take_while-cons}
 use Rattle.std.proofs.lemmas.List.Folds.{list_all-append}
-use Rattle.ip_core.specs.Decimals.{Parts, AreParts, is_digit, is_sign, is_minus, is_point, is_exponent_letter, begins, after_one, digits, after_digits, with_exponent, with_fraction, parts}
+use Rattle.ip_core.specs.Decimals.{Parts, AreParts, is_digit, is_sign, is_minus, is_point, is_exponent_letter, first_passes, after_one, digits, after_digits, with_exponent, with_fraction, parts}
 
 -- what holds in both cases of a test
 by_case : {A : Type 0} (P : A → Type 0) (b : Bool) (x y : A) → P x → P y → P (if b then x else y)
@@ -30,7 +30,7 @@ drop_few : (k : ℕ) (bs : List ℕ) → length (drop k bs) ≤ length bs
 drop_few k bs = omega (arith, length-drop k bs)
 
 after_one_few : (test : ℕ → Bool) (bs : List ℕ) → length (after_one test bs) ≤ length bs
-after_one_few test bs = by_case (λ (rest : List ℕ). length rest ≤ length bs) (begins test bs) (drop 1 bs) bs (drop_few 1 bs) (omega arith)
+after_one_few test bs = by_case (λ (rest : List ℕ). length rest ≤ length bs) (first_passes test bs) (drop 1 bs) bs (drop_few 1 bs) (omega arith)
 
 pub both_digits : (xs ys : List ℕ) → list_all is_digit xs ≡ true → list_all is_digit ys ≡ true → list_all is_digit (xs ++ ys) ≡ true
 both_digits xs ys first second = rw (list_all-append, first, second) refl
@@ -43,7 +43,7 @@ exponent_parts : (n : ℕ) (negative : Bool) (whole fraction tail : List ℕ) �
 exponent_parts n negative whole fraction tail first second few some rest =
     let power = drop 1 tail in
     let after = after_one is_sign power in
-    by_case (λ (p : Parts). AreParts n p) (begins is_exponent_letter tail) _ _
+    by_case (λ (p : Parts). AreParts n p) (first_passes is_exponent_letter tail) _ _
     (record {
       digits = both_digits whole fraction first second;
       exponent_digits = all_digits after;
@@ -55,7 +55,7 @@ exponent_parts n negative whole fraction tail first second few some rest =
 fraction_parts : (n : ℕ) (negative : Bool) (whole tail : List ℕ) → list_all is_digit whole ≡ true → length whole ≤ n → length tail ≤ n → AreParts n (with_fraction negative whole tail)
 fraction_parts n negative whole tail first few rest =
     let after = drop 1 tail in
-    by_case (λ (p : Parts). AreParts n p) (begins is_point tail) _ _
+    by_case (λ (p : Parts). AreParts n p) (first_passes is_point tail) _ _
     (exponent_parts n negative whole (digits after) (after_digits after) first (all_digits after) few
     (omega (arith, few_digits after, drop_few 1 tail, rest))
     (omega (arith, drop_few (prefix_len is_digit after) after, drop_few 1 tail, rest)))
@@ -65,6 +65,6 @@ fraction_parts n negative whole tail first few rest =
 pub are_parts : (bs : List ℕ) → AreParts (length bs) (parts bs)
 are_parts bs =
     let after = after_one is_sign bs in
-    fraction_parts (length bs) (begins is_minus bs) (digits after) (after_digits after) (all_digits after)
+    fraction_parts (length bs) (first_passes is_minus bs) (digits after) (after_digits after) (all_digits after)
     (omega (arith, few_digits after, after_one_few is_sign bs))
     (omega (arith, drop_few (prefix_len is_digit after) after, after_one_few is_sign bs))

@@ -9,7 +9,7 @@ use Rattle.std.proofs.lemmas.List.{length-append}
 use Rattle.std.proofs.lemmas.List.Sums.{suffix_len-take_no, take_while-cons}
 use Rattle.std.proofs.Math.Seq.{take-length, drop-append_seam}
 use Rattle.std.proofs.Math.Nat.{mul-le-mul_right, mul_comm, mul_assoc, pow-le-pow_right, pow-suc, div-div-eq-div-mul}
-use Rattle.ip_core.specs.Decimals.{begins, is_digit, is_zero, decimal, digits, after_digits, leading, trailing}
+use Rattle.ip_core.specs.Decimals.{first_passes, is_digit, is_zero, decimal, digits, after_digits, leading_zeros, trailing_zeros}
 use Rattle.ip_core.specs.Texts.{last_digits}
 use Rattle.ip_core.proofs.DecimalDigits.{and_true, le_of_test, digit_from}
 use Rattle.ip_core.proofs.DecimalParts.{both_digits}
@@ -56,7 +56,7 @@ last_value (suc k) n =
     rw (before, decimal_more, rest) (omega arith)
 
 -- no zero stands at the end of digits of a number that isn't divisible by ten
-pub no_trailing : (ds : List ℕ) → list_all is_digit ds ≡ true → ((k : ℕ) → decimal 0 ds ≡ k * 10 → ⊥) → trailing ds ≡ 0
+pub no_trailing : (ds : List ℕ) → list_all is_digit ds ≡ true → ((k : ℕ) → decimal 0 ds ≡ k * 10 → ⊥) → trailing_zeros ds ≡ 0
 no_trailing [] all other = refl
 no_trailing (d ∷ ds) all other =
     let j : ℕ = length ds in
@@ -64,7 +64,7 @@ no_trailing (d ∷ ds) all other =
     let whole : decimal 0 (d ∷ ds) ≡ decimal 0 (take j (d ∷ ds)) * 10 + (get_or (d ∷ ds) j 0 - 48) = sym (ap (decimal 0) all_of) ∙ last_splits (d ∷ ds) 0 j (omega arith) (omega arith) in
     let last : is_zero (get_or (d ∷ ds) j 0) ≡ false = ne_eqb (get_or (d ∷ ds) j 0) 48 (λ same. other (decimal 0 (take j (d ∷ ds))) (omega (arith, whole, same))) in
     let back : length (d ∷ ds) - 1 ≡ j = omega arith in
-    ap trailing (sym (take-length (d ∷ ds))) ∙ suffix_len-take_no is_zero (d ∷ ds) (length (d ∷ ds)) 0 (omega arith) (omega arith) (rw back last)
+    ap trailing_zeros (sym (take-length (d ∷ ds))) ∙ suffix_len-take_no is_zero (d ∷ ds) (length (d ∷ ds)) 0 (omega arith) (omega arith) (rw back last)
 
 zero_is : (d : ℕ) → is_zero d ≡ true → d ≡ 48
 zero_is d h = grind (arith, nat_tests)
@@ -72,22 +72,22 @@ zero_is d h = grind (arith, nat_tests)
 nonzero_is : (d : ℕ) → is_zero d ≡ false → d ≢ 48
 nonzero_is d h same = false≢true (sym h ∙ ap is_zero same)
 
-prefix_by : (b : Bool) (d : ℕ) (ds : List ℕ) → is_zero d ≡ b → leading (d ∷ ds) ≡ cond b (1 + leading ds) 0
+prefix_by : (b : Bool) (d : ℕ) (ds : List ℕ) → is_zero d ≡ b → leading_zeros (d ∷ ds) ≡ cond b (1 + leading_zeros ds) 0
 prefix_by true d ds h = rw h refl
 prefix_by false d ds h = rw h refl
 
-leading_yes : (d : ℕ) (ds : List ℕ) → is_zero d ≡ true → drop (leading (d ∷ ds)) (d ∷ ds) ≡ drop (leading ds) ds
-leading_yes d ds h = let next : leading (d ∷ ds) ≡ suc (leading ds) = prefix_by true d ds h ∙ omega arith in rw next refl
+leading_yes : (d : ℕ) (ds : List ℕ) → is_zero d ≡ true → drop (leading_zeros (d ∷ ds)) (d ∷ ds) ≡ drop (leading_zeros ds) ds
+leading_yes d ds h = let next : leading_zeros (d ∷ ds) ≡ suc (leading_zeros ds) = prefix_by true d ds h ∙ omega arith in rw next refl
 
-leading_no : (d : ℕ) (ds : List ℕ) → is_zero d ≡ false → drop (leading (d ∷ ds)) (d ∷ ds) ≡ d ∷ ds
-leading_no d ds h = let none : leading (d ∷ ds) ≡ 0 = prefix_by false d ds h in rw none refl
+leading_no : (d : ℕ) (ds : List ℕ) → is_zero d ≡ false → drop (leading_zeros (d ∷ ds)) (d ∷ ds) ≡ d ∷ ds
+leading_no d ds h = let none : leading_zeros (d ∷ ds) ≡ 0 = prefix_by false d ds h in rw none refl
 
-value_by : (b : Bool) (d : ℕ) (ds : List ℕ) → is_zero d ≡ b → decimal 0 (drop (leading ds) ds) ≡ decimal 0 ds → decimal 0 (drop (leading (d ∷ ds)) (d ∷ ds)) ≡ decimal 0 (d ∷ ds)
+value_by : (b : Bool) (d : ℕ) (ds : List ℕ) → is_zero d ≡ b → decimal 0 (drop (leading_zeros ds) ds) ≡ decimal 0 ds → decimal 0 (drop (leading_zeros (d ∷ ds)) (d ∷ ds)) ≡ decimal 0 (d ∷ ds)
 value_by true d ds h rest = let same : d ≡ 48 = zero_is d h in ap (decimal 0) (leading_yes d ds h) ∙ rest ∙ rw same refl
 value_by false d ds h rest = ap (decimal 0) (leading_no d ds h)
 
 -- zeros at the front change no number
-pub value_kept : (ds : List ℕ) → decimal 0 (drop (leading ds) ds) ≡ decimal 0 ds
+pub value_kept : (ds : List ℕ) → decimal 0 (drop (leading_zeros ds) ds) ≡ decimal 0 ds
 value_kept [] = refl
 value_kept (d ∷ ds) = value_by (is_zero d) d ds refl (value_kept ds)
 
@@ -110,7 +110,7 @@ at_most n a v some small grown (inr many) =
     let one : 1 * 10 ^ n ≤ a * 10 ^ n = mul-le-mul_right (10 ^ n) some in
     absurd (omega (arith, wide, one, grown, small))
 
-few_by : (b : Bool) (d : ℕ) (ds : List ℕ) → is_zero d ≡ b → 48 ≤ d → decimal 0 (d ∷ ds) < 10 ^ 18 → (decimal 0 ds < 10 ^ 18 → length (drop (leading ds) ds) ≤ 18) → length (drop (leading (d ∷ ds)) (d ∷ ds)) ≤ 18
+few_by : (b : Bool) (d : ℕ) (ds : List ℕ) → is_zero d ≡ b → 48 ≤ d → decimal 0 (d ∷ ds) < 10 ^ 18 → (decimal 0 ds < 10 ^ 18 → length (drop (leading_zeros ds) ds) ≤ 18) → length (drop (leading_zeros (d ∷ ds)) (d ∷ ds)) ≤ 18
 few_by true d ds h least small rest =
     let same : d ≡ 48 = zero_is d h in
     let below : decimal 0 ds < 10 ^ 18 = rw same at small in
@@ -122,30 +122,30 @@ few_by false d ds h least small rest =
     rw (leading_no d ds h) (omega (arith, few))
 
 -- a number below 10^18 has at most 18 digits without the zeros at the front
-pub few_left : (ds : List ℕ) → list_all is_digit ds ≡ true → decimal 0 ds < 10 ^ 18 → length (drop (leading ds) ds) ≤ 18
+pub few_left : (ds : List ℕ) → list_all is_digit ds ≡ true → decimal 0 ds < 10 ^ 18 → length (drop (leading_zeros ds) ds) ≤ 18
 few_left [] all small = omega arith
 few_left (d ∷ ds) all small = few_by (is_zero d) d ds refl (digit_from (d ∷ ds) 0 all (omega arith)) small (few_left ds (and_true (is_digit d) (list_all is_digit ds) all).1)
 
-none_first : (tail : List ℕ) → begins is_digit tail ≡ false → digits tail ≡ []
+none_first : (tail : List ℕ) → first_passes is_digit tail ≡ false → digits tail ≡ []
 none_first [] none = refl
 none_first (t ∷ tail) none = rw (take_while-cons, none) refl
 
 -- the run of digits before bytes that don't begin with one
-pub first_run : (ds tail : List ℕ) → list_all is_digit ds ≡ true → begins is_digit tail ≡ false → digits (ds ++ tail) ≡ ds
+pub first_run : (ds tail : List ℕ) → list_all is_digit ds ≡ true → first_passes is_digit tail ≡ false → digits (ds ++ tail) ≡ ds
 first_run [] tail all none = none_first tail none
 first_run (d ∷ ds) tail all none =
     let k = and_true (is_digit d) (list_all is_digit ds) all in
     rw (take_while-cons, k.0, first_run ds tail k.1 none) refl
 
-none_length : (tail : List ℕ) → begins is_digit tail ≡ false → prefix_len is_digit tail ≡ 0
+none_length : (tail : List ℕ) → first_passes is_digit tail ≡ false → prefix_len is_digit tail ≡ 0
 none_length [] none = refl
 none_length (t ∷ tail) none = rw none refl
 
-run_length : (ds tail : List ℕ) → list_all is_digit ds ≡ true → begins is_digit tail ≡ false → prefix_len is_digit (ds ++ tail) ≡ length ds
+run_length : (ds tail : List ℕ) → list_all is_digit ds ≡ true → first_passes is_digit tail ≡ false → prefix_len is_digit (ds ++ tail) ≡ length ds
 run_length [] tail all none = none_length tail none
 run_length (d ∷ ds) tail all none =
     let k = and_true (is_digit d) (list_all is_digit ds) all in
     rw (k.0, run_length ds tail k.1 none) (omega arith)
 
-pub after_run : (ds tail : List ℕ) → list_all is_digit ds ≡ true → begins is_digit tail ≡ false → after_digits (ds ++ tail) ≡ tail
+pub after_run : (ds tail : List ℕ) → list_all is_digit ds ≡ true → first_passes is_digit tail ≡ false → after_digits (ds ++ tail) ≡ tail
 after_run ds tail all none = rw (run_length ds tail all none) (drop-append_seam ds tail)

@@ -8,7 +8,7 @@ use Rattle.std.proofs.lemmas.List.{append_assoc, append-nil}
 use Rattle.std.proofs.Math.Seq.{take-length}
 use Rattle.std.proofs.Math.Nat.{div-le_self}
 use Rattle.std.proofs.lemmas.Fmt.{decimal_nonempty}
-use Rattle.ip_core.specs.Decimals.{Number, IsDecimal, Parts, parts, with_fraction, with_exponent, read_parts, read_decimal, lacks_digits, reduced, power, signed, is_digit, is_sign, is_minus, begins, after_one, digits, after_digits, decimal, significant, trailing, leading, in_range}
+use Rattle.ip_core.specs.Decimals.{Number, IsDecimal, Parts, parts, with_fraction, with_exponent, read_parts, read_decimal, lacks_digits, reduced_number, power, signed_number, is_digit, is_sign, is_minus, first_passes, after_one, digits, after_digits, decimal, significant_digits, trailing_zeros, leading_zeros, exponent_in_range}
 use Rattle.ip_core.specs.Texts.{decimal_text, last_digits}
 use Rattle.ip_core.specs.Prints.{numeral_text, number_text}
 use Rattle.ip_core.proofs.DecimalDigits.{and_true, le_of_test}
@@ -27,11 +27,11 @@ after_sign_text : (negative : Bool) (d : ℕ) (rest : List ℕ) → is_digit d �
 after_sign_text true d rest h = refl
 after_sign_text false d rest h = rw (not_sign d h) refl
 
-minus_of_text : (negative : Bool) (d : ℕ) (rest : List ℕ) → is_digit d ≡ true → begins is_minus (sign_text negative ++ d ∷ rest) ≡ negative
+minus_of_text : (negative : Bool) (d : ℕ) (rest : List ℕ) → is_digit d ≡ true → first_passes is_minus (sign_text negative ++ d ∷ rest) ≡ negative
 minus_of_text true d rest h = refl
 minus_of_text false d rest h = not_minus d h
 
-parts_as : (bytes rest whole tail : List ℕ) (negative : Bool) → after_one is_sign bytes ≡ rest → begins is_minus bytes ≡ negative → digits rest ≡ whole → after_digits rest ≡ tail → parts bytes ≡ with_fraction negative whole tail
+parts_as : (bytes rest whole tail : List ℕ) (negative : Bool) → after_one is_sign bytes ≡ rest → first_passes is_minus bytes ≡ negative → digits rest ≡ whole → after_digits rest ≡ tail → parts bytes ≡ with_fraction negative whole tail
 parts_as bytes rest whole tail negative after sign front back =
     ap (λ b. with_fraction b (digits (after_one is_sign bytes)) (after_digits (after_one is_sign bytes))) sign
     ∙ ap (λ r. with_fraction negative (digits r) (after_digits r)) after
@@ -39,7 +39,7 @@ parts_as bytes rest whole tail negative after sign front back =
     ∙ ap (with_fraction negative whole) back
 
 -- the parts of a sign, digits and what follows them
-parts_of_text : (negative : Bool) (d : ℕ) (ds tail : List ℕ) → list_all is_digit (d ∷ ds) ≡ true → begins is_digit tail ≡ false
+parts_of_text : (negative : Bool) (d : ℕ) (ds tail : List ℕ) → list_all is_digit (d ∷ ds) ≡ true → first_passes is_digit tail ≡ false
     → parts (sign_text negative ++ (d ∷ (ds ++ tail))) ≡ with_fraction negative (d ∷ ds) tail
 parts_of_text negative d ds tail all none =
     let here = (and_true (is_digit d) (list_all is_digit ds) all).0 in
@@ -71,7 +71,7 @@ fraction_parts : (negative : Bool) (whole fs : List ℕ) → list_all is_digit f
 fraction_parts negative whole fs all =
     ap (λ r. with_exponent negative whole r (after_digits fs)) (all_run fs all) ∙ ap (with_exponent negative whole fs) (none_left fs all)
 
-range_is : (e : ℤ) → neg_ℤ (pos 18) ≤ℤ e → e ≤ℤ pos 400 → in_range e ≡ Some e
+range_is : (e : ℤ) → neg_ℤ (pos 18) ≤ℤ e → e ≤ℤ pos 400 → exponent_in_range e ≡ Some e
 range_is e low high =
     let first : int_le (neg_ℤ (pos 18)) e ≡ true = grind (arith, ints) in
     let second : int_le e (pos 400) ≡ true = grind (arith, ints) in
@@ -83,32 +83,32 @@ nonempty (d ∷ ds) other = omega arith
 
 -- digits that stand for a number which isn't divisible by ten are read as it
 reduced_to : (negative : Bool) (ds : List ℕ) (e : ℤ) (n : ℕ) → list_all is_digit ds ≡ true → decimal 0 ds ≡ n → n < 10 ^ 18 → ((k : ℕ) → n ≡ k * 10 → ⊥)
-    → neg_ℤ (pos 18) ≤ℤ e → e ≤ℤ pos 400 → reduced negative (significant ds) e ≡ Ok (record { mantissa = signed negative n; exponent = e })
+    → neg_ℤ (pos 18) ≤ℤ e → e ≤ℤ pos 400 → reduced_number negative (significant_digits ds) e ≡ Ok (record { mantissa = signed_number negative n; exponent = e })
 reduced_to negative ds e n all value small other low high =
-    let no_end : trailing ds ≡ 0 = no_trailing ds all (λ k same. other k (sym value ∙ same)) in
-    let whole : take (length ds - trailing ds) ds ≡ ds = ap (λ z. take (length ds - z) ds) no_end ∙ (let all_of : length ds - 0 ≡ length ds = omega arith in ap (λ k. take k ds) all_of) ∙ take-length ds in
-    let left : significant ds ≡ drop (leading ds) ds = ap (drop (leading ds)) whole in
-    let same : decimal 0 (significant ds) ≡ n = ap (decimal 0) left ∙ value_kept ds ∙ value in
-    let few : length (significant ds) ≤ 18 = rw left (few_left ds all (omega (arith, value, small))) in
-    let some : 0 < length (significant ds) = nonempty (significant ds) (λ none. other 0 (sym same ∙ none)) in
-    reduced_is negative (significant ds) e e some few (range_is e low high) ∙ ap (λ k. Ok (record { mantissa = signed negative k; exponent = e })) same
+    let no_end : trailing_zeros ds ≡ 0 = no_trailing ds all (λ k same. other k (sym value ∙ same)) in
+    let whole : take (length ds - trailing_zeros ds) ds ≡ ds = ap (λ z. take (length ds - z) ds) no_end ∙ (let all_of : length ds - 0 ≡ length ds = omega arith in ap (λ k. take k ds) all_of) ∙ take-length ds in
+    let left : significant_digits ds ≡ drop (leading_zeros ds) ds = ap (drop (leading_zeros ds)) whole in
+    let same : decimal 0 (significant_digits ds) ≡ n = ap (decimal 0) left ∙ value_kept ds ∙ value in
+    let few : length (significant_digits ds) ≤ 18 = rw left (few_left ds all (omega (arith, value, small))) in
+    let some : 0 < length (significant_digits ds) = nonempty (significant_digits ds) (λ none. other 0 (sym same ∙ none)) in
+    reduced_is negative (significant_digits ds) e e some few (range_is e low high) ∙ ap (λ k. Ok (record { mantissa = signed_number negative k; exponent = e })) same
 
 -- what is read of parts with nothing left over
-read_of : (n : ℕ) (p : Parts) → p.left ≡ [] → lacks_digits p ≡ false → read_parts n p ≡ reduced p.negative (significant (p.whole ++ p.fraction)) (power p.exponent_negative p.exponent (length p.fraction) (trailing (p.whole ++ p.fraction)))
+read_of : (n : ℕ) (p : Parts) → p.left ≡ [] → lacks_digits p ≡ false → read_parts n p ≡ reduced_number p.negative (significant_digits (p.whole ++ p.fraction)) (power p.exponent_negative p.exponent (length p.fraction) (trailing_zeros (p.whole ++ p.fraction)))
 read_of n p none some = rw (none, some) refl
 
 -- what is read of a numeral by its parts
 back : (bytes : List ℕ) (p : Parts) (n : ℕ) (e : ℤ) → parts bytes ≡ p → p.left ≡ [] → lacks_digits p ≡ false → list_all is_digit (p.whole ++ p.fraction) ≡ true
-    → decimal 0 (p.whole ++ p.fraction) ≡ n → n < 10 ^ 18 → ((k : ℕ) → n ≡ k * 10 → ⊥) → signed p.exponent_negative (decimal 0 p.exponent) -ℤ pos (length p.fraction) ≡ e
-    → neg_ℤ (pos 18) ≤ℤ e → e ≤ℤ pos 400 → read_decimal bytes ≡ Ok (record { mantissa = signed p.negative n; exponent = e })
+    → decimal 0 (p.whole ++ p.fraction) ≡ n → n < 10 ^ 18 → ((k : ℕ) → n ≡ k * 10 → ⊥) → signed_number p.exponent_negative (decimal 0 p.exponent) -ℤ pos (length p.fraction) ≡ e
+    → neg_ℤ (pos 18) ≤ℤ e → e ≤ℤ pos 400 → read_decimal bytes ≡ Ok (record { mantissa = signed_number p.negative n; exponent = e })
 back bytes p n e split none some all value small other sum low high =
     let ds = p.whole ++ p.fraction in
-    let no_end : trailing ds ≡ 0 = no_trailing ds all (λ k same. other k (sym value ∙ same)) in
-    let base = signed p.exponent_negative (decimal 0 p.exponent) -ℤ pos (length p.fraction) in
-    let power_is : power p.exponent_negative p.exponent (length p.fraction) (trailing ds) ≡ e =
+    let no_end : trailing_zeros ds ≡ 0 = no_trailing ds all (λ k same. other k (sym value ∙ same)) in
+    let base = signed_number p.exponent_negative (decimal 0 p.exponent) -ℤ pos (length p.fraction) in
+    let power_is : power p.exponent_negative p.exponent (length p.fraction) (trailing_zeros ds) ≡ e =
     ap (λ z. base +ℤ pos z) no_end ∙ omega (arith, ints, sum)
     in
-    ap (read_parts (length bytes)) split ∙ read_of (length bytes) p none some ∙ ap (reduced p.negative (significant ds)) power_is ∙ reduced_to p.negative ds e n all value small other low high
+    ap (read_parts (length bytes)) split ∙ read_of (length bytes) p none some ∙ ap (reduced_number p.negative (significant_digits ds)) power_is ∙ reduced_to p.negative ds e n all value small other low high
 
 has_digits : (p : Parts) → 0 < length (p.whole ++ p.fraction) → (p.has_exponent && length p.exponent == 0) ≡ false → lacks_digits p ≡ false
 has_digits p some more = rw (ne_eqb (length (p.whole ++ p.fraction)) 0 (λ none. omega (arith, some, none)), more) refl
@@ -116,7 +116,7 @@ has_digits p some more = rw (ne_eqb (length (p.whole ++ p.fraction)) 0 (λ none.
 -- A number that isn't divisible by ten, as numeral: the sign, the digits and the exponent are read back.
 
 whole_as : (negative : Bool) (ds : List ℕ) (n : ℕ) → list_all is_digit ds ≡ true → 0 < length ds → decimal 0 ds ≡ n → n < 10 ^ 18 → ((k : ℕ) → n ≡ k * 10 → ⊥)
-    → read_decimal (sign_text negative ++ ds) ≡ Ok (record { mantissa = signed negative n; exponent = pos 0 })
+    → read_decimal (sign_text negative ++ ds) ≡ Ok (record { mantissa = signed_number negative n; exponent = pos 0 })
 whole_as negative [] n all some value small other = absurd (omega (arith, some))
 whole_as negative (d ∷ ds) n all some value small other =
     let p = with_point negative (d ∷ ds) [] in
@@ -124,13 +124,13 @@ whole_as negative (d ∷ ds) n all some value small other =
     let split : parts (sign_text negative ++ (d ∷ ds)) ≡ p = ap (λ r. parts (sign_text negative ++ (d ∷ r))) (sym (append-nil ds)) ∙ parts_of_text negative d ds [] all refl in
     back (sign_text negative ++ (d ∷ ds)) p n (pos 0) split refl (has_digits p (omega arith) refl) (ap (list_all is_digit) same ∙ all) (ap (decimal 0) same ∙ value) small other refl (omega (arith, ints)) (omega (arith, ints))
 
-pub whole_back : (negative : Bool) (n : ℕ) → n < 10 ^ 18 → ((k : ℕ) → n ≡ k * 10 → ⊥) → read_decimal (sign_text negative ++ decimal_digits n) ≡ Ok (record { mantissa = signed negative n; exponent = pos 0 })
+pub whole_back : (negative : Bool) (n : ℕ) → n < 10 ^ 18 → ((k : ℕ) → n ≡ k * 10 → ⊥) → read_decimal (sign_text negative ++ decimal_digits n) ≡ Ok (record { mantissa = signed_number negative n; exponent = pos 0 })
 whole_back negative n small other =
     whole_as negative (decimal_digits n) n (written_digits n (omega (arith, small))) (decimal_nonempty n (omega (arith, small))) (written_value n (omega (arith, small))) small other
 
 power_as : (negative : Bool) (ds es : List ℕ) (n e : ℕ) → list_all is_digit ds ≡ true → 0 < length ds → decimal 0 ds ≡ n → n < 10 ^ 18 → ((k : ℕ) → n ≡ k * 10 → ⊥)
     → list_all is_digit es ≡ true → 0 < length es → decimal 0 es ≡ suc e → suc e ≤ 400
-    → read_decimal (sign_text negative ++ (ds ++ 101 ∷ es)) ≡ Ok (record { mantissa = signed negative n; exponent = pos (suc e) })
+    → read_decimal (sign_text negative ++ (ds ++ 101 ∷ es)) ≡ Ok (record { mantissa = signed_number negative n; exponent = pos (suc e) })
 power_as negative [] es n e all some value small other digits_e some_e value_e few = absurd (omega (arith, some))
 power_as negative (d ∷ ds) [] n e all some value small other digits_e some_e value_e few = absurd (omega (arith, some_e))
 power_as negative (d ∷ ds) (c ∷ es) n e all some value small other digits_e some_e value_e few =
@@ -141,7 +141,7 @@ power_as negative (d ∷ ds) (c ∷ es) n e all some value small other digits_e 
     (ap (λ k. pos k -ℤ pos 0) value_e ∙ omega (arith, ints)) (omega (arith, ints)) (omega (arith, ints, few))
 
 pub power_back : (negative : Bool) (n e : ℕ) → n < 10 ^ 18 → ((k : ℕ) → n ≡ k * 10 → ⊥) → suc e ≤ 400
-    → read_decimal (sign_text negative ++ (decimal_digits n ++ 101 ∷ decimal_digits (suc e))) ≡ Ok (record { mantissa = signed negative n; exponent = pos (suc e) })
+    → read_decimal (sign_text negative ++ (decimal_digits n ++ 101 ∷ decimal_digits (suc e))) ≡ Ok (record { mantissa = signed_number negative n; exponent = pos (suc e) })
 power_back negative n e small other few =
     power_as negative (decimal_digits n) (decimal_digits (suc e)) n e (written_digits n (omega (arith, small))) (decimal_nonempty n (omega (arith, small))) (written_value n (omega (arith, small))) small other
     (written_digits (suc e) (omega (arith, few))) (decimal_nonempty (suc e) (omega (arith, few))) (written_value (suc e) (omega (arith, few))) few
@@ -151,7 +151,7 @@ decimal_append a [] ys = refl
 decimal_append a (x ∷ xs) ys = decimal_append (a * 10 + (x - 48)) xs ys
 
 point_as : (negative : Bool) (ds fs : List ℕ) (n e : ℕ) → list_all is_digit ds ≡ true → 0 < length ds → list_all is_digit fs ≡ true → length fs ≡ suc e → decimal 0 (ds ++ fs) ≡ n → n < 10 ^ 18
-    → ((k : ℕ) → n ≡ k * 10 → ⊥) → suc e ≤ 18 → read_decimal (sign_text negative ++ (ds ++ 46 ∷ fs)) ≡ Ok (record { mantissa = signed negative n; exponent = negsuc e })
+    → ((k : ℕ) → n ≡ k * 10 → ⊥) → suc e ≤ 18 → read_decimal (sign_text negative ++ (ds ++ 46 ∷ fs)) ≡ Ok (record { mantissa = signed_number negative n; exponent = negsuc e })
 point_as negative [] fs n e all some digits_f long value small other few = absurd (omega (arith, some))
 point_as negative (d ∷ ds) fs n e all some digits_f long value small other few =
     let p = with_point negative (d ∷ ds) fs in
@@ -160,7 +160,7 @@ point_as negative (d ∷ ds) fs n e all some digits_f long value small other few
     (ap (λ k. pos 0 -ℤ pos k) long ∙ omega (arith, ints)) (omega (arith, ints, few)) (omega (arith, ints))
 
 pub point_back : (negative : Bool) (n e : ℕ) → n < 10 ^ 18 → ((k : ℕ) → n ≡ k * 10 → ⊥) → suc e ≤ 18
-    → read_decimal (sign_text negative ++ (decimal_digits (n / 10 ^ suc e) ++ 46 ∷ last_digits (suc e) n)) ≡ Ok (record { mantissa = signed negative n; exponent = negsuc e })
+    → read_decimal (sign_text negative ++ (decimal_digits (n / 10 ^ suc e) ++ 46 ∷ last_digits (suc e) n)) ≡ Ok (record { mantissa = signed_number negative n; exponent = negsuc e })
 point_back negative n e small other few =
     let q = n / 10 ^ suc e in
     let below : q ≤ n = div-le_self n (10 ^ suc e) in

@@ -5,7 +5,7 @@ use Rattle.std.proofs.lemmas.Bool.Decides.{nat_tests}
 use Rattle.std.proofs.lemmas.Int.{ints}
 use Rattle.std.proofs.lemmas.List.{length-drop, length-take-le, length-reverse, get_or-reverse}
 use Rattle.std.proofs.lemmas.List.Sums.{prefix_len_stops}
-use Rattle.ip_core.specs.Decimals.{Number, IsDecimal, is_digit, is_zero, decimal, signed, leading, trailing, significant, power, parts, lacks_digits, reduced, is_in_range, read_decimal}
+use Rattle.ip_core.specs.Decimals.{Number, IsDecimal, is_digit, is_zero, decimal, signed_number, leading_zeros, trailing_zeros, significant_digits, power, parts, lacks_digits, reduced_number, is_in_range, read_decimal}
 use Rattle.ip_core.specs.declared.decimal.NumeralError.{NumeralError}
 use Rattle.ip_core.specs.declared.decimal.NumeralError.TheVariants.{BadByte, Empty}
 use Rattle.ip_core.proofs.DecimalDigits.{and_true, digit_below_ten, one_more, few_digits}
@@ -63,20 +63,20 @@ at_most : (n : ℕ) → nat_le n 18 ≡ true → n ≤ 18
 at_most n h = grind (arith, nat_tests)
 
 -- the digits that remain, few enough, and a power in range make a decimal
-significant_is : (negative : Bool) (ds : List ℕ) (p : ℤ) → list_all is_digit ds ≡ true → (length (significant ds) == 0) ≡ false → nat_le (length (significant ds)) 18 ≡ true
-    → is_in_range p ≡ true → IsDecimal (record { mantissa = signed negative (decimal 0 (significant ds)); exponent = p })
+significant_is : (negative : Bool) (ds : List ℕ) (p : ℤ) → list_all is_digit ds ≡ true → (length (significant_digits ds) == 0) ≡ false → nat_le (length (significant_digits ds)) 18 ≡ true
+    → is_in_range p ≡ true → IsDecimal (record { mantissa = signed_number negative (decimal 0 (significant_digits ds)); exponent = p })
 significant_is negative ds p all some few range =
-    let to : ℕ = length ds - trailing ds in
+    let to : ℕ = length ds - trailing_zeros ds in
     let within : to ≤ length ds = omega arith in
-    let long : length (significant ds) ≡ to - leading ds = length-drop (leading ds) (take to ds) ∙ ap (λ k. k - leading ds) (length-take-le to ds within) in
-    let left : 0 < length (significant ds) = some_left _ some in
-    let order : leading ds < to = omega (arith, long, left) in
-    let before : trailing ds < length ds = omega (arith, order) in
-    let digits : list_all is_digit (significant ds) ≡ true = drop_all_digits (leading ds) (take to ds) (take_all_digits to ds all) in
+    let long : length (significant_digits ds) ≡ to - leading_zeros ds = length-drop (leading_zeros ds) (take to ds) ∙ ap (λ k. k - leading_zeros ds) (length-take-le to ds within) in
+    let left : 0 < length (significant_digits ds) = some_left _ some in
+    let order : leading_zeros ds < to = omega (arith, long, left) in
+    let before : trailing_zeros ds < length ds = omega (arith, order) in
+    let digits : list_all is_digit (significant_digits ds) ≡ true = drop_all_digits (leading_zeros ds) (take to ds) (take_all_digits to ds all) in
     let ends = and_true (int_le (neg_ℤ (pos 18)) p) (int_le p (pos 400)) range in
-    signed_decimal_is ds (leading ds) to (decimal 0 (significant ds)) (signed negative (decimal 0 (significant ds))) p all order within
-    (not_zero_digit _ (last_stops is_zero ds before)) refl (signed_size negative (decimal 0 (significant ds)))
-    (few_digits (decimal 0 (significant ds)) (length (significant ds) + 0) 18 (decimal_few 0 0 (significant ds) digits (omega arith)) (omega (arith, at_most _ few)))
+    signed_decimal_is ds (leading_zeros ds) to (decimal 0 (significant_digits ds)) (signed_number negative (decimal 0 (significant_digits ds))) p all order within
+    (not_zero_digit _ (last_stops is_zero ds before)) refl (signed_size negative (decimal 0 (significant_digits ds)))
+    (few_digits (decimal 0 (significant_digits ds)) (length (significant_digits ds) + 0) 18 (decimal_few 0 0 (significant_digits ds) digits (omega arith)) (omega (arith, at_most _ few)))
     (in_range_least p ends.0) (in_range_greatest p ends.1)
 
 abbrev value_or : Number → Result Number NumeralError → Number
@@ -91,9 +91,9 @@ tested_by false true true e f z m n h first rest = subst IsDecimal (ap (value_or
 tested_by false true false e f z m n h first rest = cc
 tested_by false false here e f z m n h first rest = cc
 
-reduced_is_decimal : (negative : Bool) (ds : List ℕ) (p : ℤ) (n : Number) → list_all is_digit ds ≡ true → reduced negative (significant ds) p ≡ Ok n → IsDecimal n
+reduced_is_decimal : (negative : Bool) (ds : List ℕ) (p : ℤ) (n : Number) → list_all is_digit ds ≡ true → reduced_number negative (significant_digits ds) p ≡ Ok n → IsDecimal n
 reduced_is_decimal negative ds p n all h =
-    tested_by (length (significant ds) == 0) (nat_le (length (significant ds)) 18) (is_in_range p) _ _ _ _ n h zero_is
+    tested_by (length (significant_digits ds) == 0) (nat_le (length (significant_digits ds)) 18) (is_in_range p) _ _ _ _ n h zero_is
     (λ some few range. significant_is negative ds p all some few range)
 
 read_by : (a b : Bool) (e f : NumeralError) (r : Result Number NumeralError) (n : Number) → (if not a then Err e else if b then Err f else r) ≡ Ok n → r ≡ Ok n
@@ -104,5 +104,5 @@ read_by false b e f r n h = cc
 pub read_decimal_is : (bytes : List ℕ) (n : Number) → read_decimal bytes ≡ Ok n → IsDecimal n
 read_decimal_is bytes n h =
     let p = parts bytes in
-    reduced_is_decimal p.negative (p.whole ++ p.fraction) (power p.exponent_negative p.exponent (length p.fraction) (trailing (p.whole ++ p.fraction))) n
+    reduced_is_decimal p.negative (p.whole ++ p.fraction) (power p.exponent_negative p.exponent (length p.fraction) (trailing_zeros (p.whole ++ p.fraction))) n
     (are_parts bytes).digits (read_by (length p.left == 0) (lacks_digits p) (BadByte (length bytes - length p.left)) Empty _ n h)

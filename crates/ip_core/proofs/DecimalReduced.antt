@@ -2,7 +2,7 @@ use Rattle.std.proofs.Common.{◌≡◌, ◌≢◌, ◌∙◌, ◌≤◌, ◌<�
 use Rattle.std.specs.List.{list_all}
 use Rattle.std.proofs.lemmas.Int.{ints}
 use Rattle.std.proofs.lemmas.List.{take_more, drop-append-le, length-take-le}
-use Rattle.ip_core.specs.Decimals.{is_digit, decimal, signed, IsDecimal}
+use Rattle.ip_core.specs.Decimals.{is_digit, decimal, signed_number, IsDecimal}
 use Rattle.ip_core.proofs.DecimalDigits.{digit_below_ten, digit_from}
 
 pub decimal_more : (n d : ℕ) (ds : List ℕ) → decimal n (ds ++ d ∷ []) ≡ decimal n ds * 10 + (d - 48)
@@ -28,7 +28,7 @@ not_by_ten ds from (suc j) k all order within last same =
     not_tenfold (decimal 0 (drop from (take j ds))) (get_or ds j 0) k (sym (last_splits ds from j (omega (arith, order)) (omega (arith, within))) ∙ ap (λ n. decimal 0 (drop from (take n ds))) next ∙ same)
     (digit_below_ten ds j all (omega (arith, within))) (digit_from ds j all (omega (arith, within))) here
 
-pub signed_size : (negative : Bool) (n : ℕ) → unsigned_abs (signed negative n) ≡ n
+pub signed_size : (negative : Bool) (n : ℕ) → unsigned_abs (signed_number negative n) ≡ n
 signed_size true n = omega (arith, ints)
 signed_size false n = omega (arith, ints)
 

@@ -1,5 +1,4 @@
-use Rattle.std.proofs.Common.{◌≡◌, ℕ, zero, suc, ℤ, pos, negsuc, neg_ℤ, ◌+ℤ◌, ◌*ℤ◌, arith}
-use Rattle.std.proofs.Math.IntN.{*ℤ_comm}
+use Rattle.std.proofs.Common.{◌≡◌, ℕ, zero, suc, ℤ, pos, negsuc, neg_ℤ, ◌*ℤ◌, arith}
 use Rattle.std.proofs.lemmas.Int.{ints}
 
 mul_pos-neg : (n : ℕ) (x : ℤ) → pos n *ℤ neg_ℤ x ≡ neg_ℤ (pos n *ℤ x)

@@ -1,5 +1,5 @@
 -- How far a box reaches that is within the reach of another, as a box within the root box is.
-use Rattle.std.proofs.Common.{◌≡◌, ℕ, ◌<◌, ◌≤◌, ◌^◌, ◌⊎◌, inl, inr, List, length, get_or, take, ℤ, pos, ◌≤ℤ◌, unsigned_abs, sum_by, refl, arith, le_trans, mul-le-mul_left}
+use Rattle.std.proofs.Common.{◌≡◌, ℕ, ◌<◌, ◌≤◌, ◌^◌, ◌⊎◌, inl, inr, List, length, take, ℤ, pos, ◌≤ℤ◌, unsigned_abs, sum_by, refl, arith, le_trans, mul-le-mul_left}
 use Rattle.std.proofs.lemmas.Bool.{cases_lt}
 use Rattle.std.proofs.lemmas.Int.{ints}
 use Rattle.std.proofs.lemmas.List.{get_or_past}

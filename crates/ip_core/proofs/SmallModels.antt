@@ -1,5 +1,5 @@
 -- Models of one column, at which laws are tried.
-use Rattle.std.proofs.Common.{◌≡◌, ℕ, ◌≤◌, List, [], ◌∷◌, false, ℤ, pos, unsigned_abs, arith, refl}
+use Rattle.std.proofs.Common.{ℕ, ◌≤◌, List, [], ◌∷◌, false, ℤ, pos, unsigned_abs, arith, refl}
 use Rattle.std.proofs.lemmas.Int.{ints}
 use Rattle.std.proofs.lemmas.List.Elements.{All-nil, All-cons}
 use Rattle.ip_core.specs.Sides.{Sides, IsWithinLimit}

@@ -14,4 +14,6 @@ fraction_text (suc count) n = 46 ∷ last_digits (suc count) n
 
 -- the value divided by ten to the power of `decimals`: `-` where it is negative, the whole part, and the decimals
 abbrev pub decimal_text : ℤ → ℕ → List ℕ
-decimal_text value decimals = sign_text (int_lt value (pos 0)) ++ decimal (unsigned_abs value / 10 ^ decimals) ++ fraction_text decimals (unsigned_abs value)
+decimal_text value decimals =
+    sign_text (int_lt value (pos 0)) ++ decimal (unsigned_abs value / 10 ^ decimals)
+    ++ fraction_text decimals (unsigned_abs value)

@@ -28,7 +28,8 @@ impl Bounds {
     /// The box with these sides, or None exactly where their lengths differ. It takes no memory.
     pub fn of(lows: List<i64>, highs: List<i64>) -> Option<Bounds>
         requires { length lows ≤ 2 ^ 30 }
-        ensures { SomeIff result (length highs ≡ length lows) (record { lows = lows; highs = highs }) }
+        ensures { SomeIff result (length highs ≡ length lows)
+            (record { lows = lows; highs = highs }) }
     {
         if highs.len() == lows.len() {
             Some(Bounds { lows, highs })

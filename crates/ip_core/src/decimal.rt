@@ -2,9 +2,9 @@ ghost use Rattle.std.specs.Prelude.{◌≡◌, ◌≢◌, ◌≤◌, ◌≤ℤ�
 ghost use Rattle.std.specs.List.{prefix_len, list_all};
 ghost use Rattle.ip_core.specs.Prints.{number_text};
 ghost use Rattle.ip_core.specs.Texts.{decimal_text, last_digits};
-ghost use Rattle.ip_core.specs.Decimals.{decimal, reduced, significant, power, signed, in_range, leading, trailing, begins, is_digit, is_sign, after_one, digits, after_digits, seen, parts, AreParts, IsDecimal, negated, read_parts, read_decimal, with_exponent as with_exponent_of, with_fraction as with_fraction_of, lacks_digits as lacks_digits_of};
+ghost use Rattle.ip_core.specs.Decimals.{decimal, reduced_number, significant_digits, power, signed_number, exponent_in_range, leading_zeros, trailing_zeros, first_passes, is_digit, is_sign, after_one, digits, after_digits, parts_of, parts, AreParts, IsDecimal, negation, read_parts, read_decimal, with_exponent as with_exponent_of, with_fraction as with_fraction_of, lacks_digits as lacks_digits_of};
 
-use crate::numeral::{Numeral, lacks_digits, parts_of};
+use crate::numeral::{Numeral, lacks_digits, numeral_of};
 use crate::{OutOfMemory, Text};
 use itoa::Buffer;
 use std::alloc::Global;
@@ -72,7 +72,7 @@ fn digit_at(whole: &[u8], fraction: &[u8], place: usize) -> u8
 /// The number of zeros at the front of both.
 fn leading_zeros(whole: &[u8], fraction: &[u8]) -> usize
     requires short { length (whole.now ++ fraction.now) ≤ 2 ^ 31 }
-    ensures value { result ≡ leading (whole.now ++ fraction.now) }
+    ensures value { result ≡ leading_zeros (whole.now ++ fraction.now) }
     ensures within { result ≤ length (whole.now ++ fraction.now) }
 {
     let len = whole.len() + fraction.len();
@@ -86,7 +86,7 @@ fn leading_zeros(whole: &[u8], fraction: &[u8]) -> usize
 /// The number of digits of both up to the last that isn't zero.
 fn significant_end(whole: &[u8], fraction: &[u8]) -> usize
     requires short { length (whole.now ++ fraction.now) ≤ 2 ^ 31 }
-    ensures value { result ≡ length (whole.now ++ fraction.now) - trailing (whole.now ++ fraction.now) }
+    ensures value { let ds = whole.now ++ fraction.now in result ≡ length ds - trailing_zeros ds }
     ensures within { result ≤ length (whole.now ++ fraction.now) }
     ensures last { 0 < result → slice_index_or (whole.now ++ fraction.now) (result - 1) 0 ≢ 48 }
 {
@@ -129,9 +129,9 @@ fn capped_number(digits: &[u8]) -> u64
 }
 
 /// The number under its sign.
-fn signed(negative: bool, number: u64) -> i64
+fn signed_number(negative: bool, number: u64) -> i64
     requires { number ≤ 10 ^ 18 }
-    ensures value { result ≡ signed negative number }
+    ensures value { result ≡ signed_number negative number }
     ensures small { unsigned_abs result ≡ number }
 {
     let number = number as i64;
@@ -139,7 +139,7 @@ fn signed(negative: bool, number: u64) -> i64
 }
 
 /// An exponent moved down by the digits of the fraction and up by the zeros at the end.
-fn shifted(exponent: i64, fraction_len: u32, zeros: u32) -> i64
+fn shifted_exponent(exponent: i64, fraction_len: u32, zeros: u32) -> i64
     requires { unsigned_abs exponent ≤ EXPONENT_CAP }
     ensures value { result ≡ exponent -ℤ pos fraction_len +ℤ pos zeros }
     ensures small { unsigned_abs result ≤ 10 ^ 13 }
@@ -148,8 +148,8 @@ fn shifted(exponent: i64, fraction_len: u32, zeros: u32) -> i64
 }
 
 /// A power of ten, or None where it is out of range.
-fn in_range(power: i64) -> Option<i16>
-    ensures value { result ≡ in_range power }
+fn exponent_in_range(power: i64) -> Option<i16>
+    ensures value { result ≡ exponent_in_range power }
     ensures least { IfSome result (λ e. neg_ℤ (pos 18) ≤ℤ e) }
     ensures greatest { IfSome result (λ e. e ≤ℤ pos 400) }
 {
@@ -171,7 +171,9 @@ fn reduce(
     requires short { length (whole.now ++ fraction.now) ≤ 2 ^ 31 }
     requires digits { list_all is_digit (whole.now ++ fraction.now) ≡ true }
     requires exponent { list_all is_digit exponent.now ≡ true }
-    ensures { result ≡ reduced negative (significant (whole.now ++ fraction.now)) (power exponent_negative exponent.now (length fraction.now) (trailing (whole.now ++ fraction.now))) }
+    ensures { let ds = whole.now ++ fraction.now in
+        result ≡ reduced_number negative (significant_digits ds)
+        (power exponent_negative exponent.now (length fraction.now) (trailing_zeros ds)) }
 {
     let from = leading_zeros(whole, fraction);
     let to = significant_end(whole, fraction);
@@ -185,23 +187,23 @@ fn reduce(
         return Err(NumeralError::TooLong);
     }
     let zeros = whole.len() + fraction.len() - to;
-    let power = shifted(
-        signed(exponent_negative, capped_number(exponent)),
+    let power = shifted_exponent(
+        signed_number(exponent_negative, capped_number(exponent)),
         fraction.len() as u32,
         zeros as u32,
     );
-    let Some(exponent) = in_range(power) else {
+    let Some(exponent) = exponent_in_range(power) else {
         return Err(NumeralError::Range);
     };
-    let mantissa = signed(negative, number_between(whole, fraction, from, to));
+    let mantissa = signed_number(negative, number_between(whole, fraction, from, to));
     Ok(Decimal { mantissa, exponent })
 }
 
 /// The decimal of a numeral of so many bytes.
 fn decimal_of(numeral: Numeral<'_>, len: usize) -> Result<Decimal, NumeralError>
     requires short { len ≤ 2 ^ 30 }
-    requires parts { AreParts len (seen numeral) }
-    ensures { result ≡ read_parts len (seen numeral.entry) }
+    requires parts { AreParts len (parts_of numeral) }
+    ensures { result ≡ read_parts len (parts_of numeral.entry) }
 {
     if !numeral.left.is_empty() {
         let place = (len - numeral.left.len()) as u32;
@@ -230,7 +232,7 @@ impl Decimal {
         requires { length bytes.now ≤ 2 ^ 30 }
         ensures { result ≡ read_decimal bytes.now }
     {
-        decimal_of(parts_of(bytes), bytes.len())
+        decimal_of(numeral_of(bytes), bytes.len())
     }
 
     /// The number 0.
@@ -244,8 +246,8 @@ impl Decimal {
     }
 
     /// The number under the other sign.
-    pub fn negated(self) -> Decimal
-        ensures { result ≡ negated self }
+    pub fn negation(self) -> Decimal
+        ensures { result ≡ negation self }
     {
         Decimal {
             mantissa: -self.mantissa,

@@ -1,6 +1,6 @@
 ghost use Rattle.std.specs.Prelude.{◌≡◌, ◌≤◌, ◌==◌, length};
 ghost use Rattle.std.specs.List.{prefix_len};
-ghost use Rattle.ip_core.specs.Decimals.{begins, is_digit as is_digit_of, is_sign, after_one, digits, after_digits, seen, parts, with_exponent as with_exponent_of, with_fraction as with_fraction_of, lacks_digits as lacks_digits_of};
+ghost use Rattle.ip_core.specs.Decimals.{first_passes, is_digit as is_digit_of, is_sign, after_one, digits, after_digits, parts_of, parts, with_exponent as with_exponent_of, with_fraction as with_fraction_of, lacks_digits as lacks_digits_of};
 
 /// What a numeral is made of: runs of digits that may be empty, and the bytes that continue it no more.
 #[derive(Clone, Copy)]
@@ -16,7 +16,7 @@ pub struct Numeral<'a> {
 
 /// Whether the bytes begin with this one.
 fn begins_with(bytes: &[u8], first: u8) -> bool
-    ensures { result ≡ begins (λ b. b == first) bytes.now }
+    ensures { result ≡ first_passes (λ b. b == first) bytes.now }
 {
     match bytes {
         [byte, ..] => *byte == first,
@@ -67,7 +67,7 @@ fn with_exponent<'a>(
     fraction: &'a [u8],
     tail: &'a [u8],
 ) -> Numeral<'a>
-    ensures { seen result ≡ with_exponent_of negative whole.now fraction.now tail.now }
+    ensures { parts_of result ≡ with_exponent_of negative whole.now fraction.now tail.now }
 {
     match tail {
         [b'D' | b'E' | b'd' | b'e', power @ ..] => {
@@ -97,7 +97,7 @@ fn with_exponent<'a>(
 
 /// The parts of a numeral whose point, if there is one, begins the tail.
 fn with_fraction<'a>(negative: bool, whole: &'a [u8], tail: &'a [u8]) -> Numeral<'a>
-    ensures { seen result ≡ with_fraction_of negative whole.now tail.now }
+    ensures { parts_of result ≡ with_fraction_of negative whole.now tail.now }
 {
     match tail {
         [b'.', rest @ ..] => {
@@ -109,8 +109,8 @@ fn with_fraction<'a>(negative: bool, whole: &'a [u8], tail: &'a [u8]) -> Numeral
 }
 
 /// The parts of a numeral: a sign or none, digits with at most one point, and perhaps an exponent.
-pub fn parts_of(bytes: &[u8]) -> Numeral<'_>
-    ensures { seen result ≡ parts bytes.now }
+pub fn numeral_of(bytes: &[u8]) -> Numeral<'_>
+    ensures { parts_of result ≡ parts bytes.now }
 {
     let (whole, tail) = split_digits(after_sign(bytes));
     with_fraction(begins_with(bytes, b'-'), whole, tail)
@@ -118,7 +118,7 @@ pub fn parts_of(bytes: &[u8]) -> Numeral<'_>
 
 /// Whether no digit stands before the exponent, or none in it.
 pub fn lacks_digits(numeral: Numeral<'_>) -> bool
-    ensures { result ≡ lacks_digits_of (seen numeral.entry) }
+    ensures { result ≡ lacks_digits_of (parts_of numeral.entry) }
 {
     if numeral.whole.is_empty() && numeral.fraction.is_empty() {
         return true;

@@ -212,7 +212,7 @@ fn reads_numerals(rt: HostRuntime) -> Result<(), Fail> {
     }
     let half = Decimal::read(b"-.5").ok().ok_or("a decimal")?;
     assert_eq!(rt;
-        half.negated(),
+        half.negation(),
         Decimal::read(b"0.50").ok().ok_or("a decimal")?
     );
     assert_eq!(rt; Ok(Decimal::zero()), Decimal::read(b"-0.0"));

@@ -1,7 +1,7 @@
 -- What holds of the model of every file.
 use Rattle.std.specs.Prelude.{ℕ, ◌≡◌, ◌≢◌, ◌<◌, false, List, [], ◌∷◌, length, map, slice_index_or, Option, Some, None, codes, All}
 use Rattle.ip_core.specs.Names.{IsName}
-use Rattle.ip_core.specs.Decimals.{Number, IsDecimal, negated}
+use Rattle.ip_core.specs.Decimals.{Number, IsDecimal, negation}
 use Rattle.mps_model.specs.Numbers.{is_zero, is_infinite}
 use Rattle.mps_model.specs.declared.model.Limit.{Limit}
 use Rattle.mps_model.specs.declared.model.Limit.TheVariants.{Unset, Free, At}
@@ -32,7 +32,7 @@ IsRange (Some range) = IsDecimal range
 abbrev pub IsLow : Limit → Type 0
 IsLow Unset = Unit {0}
 IsLow Free = Unit {0}
-IsLow (At value) = IsDecimal value × (is_infinite (negated value) ≡ false)
+IsLow (At value) = IsDecimal value × (is_infinite (negation value) ≡ false)
 
 -- a high that a line gave is below 10^20
 abbrev pub IsHigh : Limit → Type 0

@@ -1,6 +1,6 @@
 -- The canonical text of a model: one text for each model, with one pair on a line.
 use Rattle.std.specs.Prelude.{ℕ, Bool, true, false, not, ◌&&◌, ◌==◌, List, [], ◌∷◌, ◌++◌, length, slice_index_or, Option, Some, None, if◌then◌else◌, codes}
-use Rattle.ip_core.specs.Decimals.{Number, negated}
+use Rattle.ip_core.specs.Decimals.{Number, negation}
 use Rattle.ip_core.specs.Prints.{number_text}
 use Rattle.mps_model.specs.Numbers.{zero_decimal, is_zero}
 use Rattle.mps_model.specs.declared.model.RowKind.{RowKind}
@@ -109,7 +109,7 @@ side_lines (row ∷ rows) = nonzero_line (codes "RHS") row.name row.rhs ++ side_
 
 -- the right-hand sides: first that of the objective, the negated constant
 abbrev pub sides_lines : MpsModel → List ℕ
-sides_lines m = nonzero_line (codes "RHS") m.objective (negated m.constant) ++ side_lines m.rows
+sides_lines m = nonzero_line (codes "RHS") m.objective (negation m.constant) ++ side_lines m.rows
 
 -- the range of a row of this name, zero or not
 abbrev pub range_line : List ℕ → Option Number → List ℕ

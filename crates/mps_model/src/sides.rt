@@ -11,7 +11,7 @@ pub fn sides_text(alloc: Global, mps: &MpsModel) -> Result<Text, OutOfMemory>
     ensures { IfOk result (λ lines. lines ≡ sides_lines mps.now) }
 {
     let mut lines = Text::new(alloc);
-    append_nonzero(&mut lines, b"RHS", &mps.objective, mps.constant.negated())?;
+    append_nonzero(&mut lines, b"RHS", &mps.objective, mps.constant.negation())?;
     append_sides(&mut lines, mps.rows.as_slice())?;
     Ok(lines)
 }

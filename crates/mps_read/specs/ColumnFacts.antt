@@ -1,6 +1,6 @@
 -- What the lines so far say of columns. They stand newest first.
 use Rattle.std.specs.Prelude.{ℕ, ◌+◌, Bool, true, false, List, [], ◌∷◌, ◌++◌, slice_set, slice_index_or, if◌then◌else◌}
-use Rattle.ip_core.specs.Decimals.{Number, negated}
+use Rattle.ip_core.specs.Decimals.{Number, negation}
 use Rattle.mps_read.specs.Names.{is_among, place_among, extended, with_name}
 use Rattle.mps_model.specs.Numbers.{zero_decimal, is_zero, is_infinite}
 use Rattle.mps_read.specs.Numerals.{one_decimal, decimal_of}
@@ -54,7 +54,7 @@ coefficient_pair names states col pair cols = with_coefficient (place_of_pair na
 
 -- a number as a low
 abbrev pub low_limit : Number → Limit
-low_limit value = if is_infinite (negated value) then Free else At value
+low_limit value = if is_infinite (negation value) then Free else At value
 
 -- and as a high
 abbrev pub high_limit : Number → Limit

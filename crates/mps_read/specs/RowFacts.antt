@@ -1,6 +1,6 @@
 -- What the lines so far say of rows. They stand newest first.
 use Rattle.std.specs.Prelude.{ℕ, ◌+◌, Bool, true, false, List, [], ◌∷◌, Option, Some, None, slice_set, slice_index_or, if◌then◌else◌}
-use Rattle.ip_core.specs.Decimals.{Number, negated}
+use Rattle.ip_core.specs.Decimals.{Number, negation}
 use Rattle.mps_read.specs.Names.{is_among, place_among, extended, with_name}
 use Rattle.mps_model.specs.Numbers.{zero_decimal}
 use Rattle.mps_read.specs.Numerals.{decimal_of}
@@ -115,7 +115,7 @@ rows_of (_ ∷ before) = rows_of before
 
 -- the constant is the objective's right-hand side negated
 abbrev pub with_constant : ValueKind → RowPlace → Number → Number → Number
-with_constant Side Objective value constant = negated value
+with_constant Side Objective value constant = negation value
 with_constant Side Dropped value constant = constant
 with_constant Side (Kept row) value constant = constant
 with_constant Range place value constant = constant

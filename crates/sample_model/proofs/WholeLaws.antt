@@ -2,7 +2,7 @@ use Rattle.std.proofs.Common.{◌≡◌, ◌≢◌, ◌∙◌, ◌<◌, ◌*◌,
 use Rattle.std.proofs.lemmas.Bool.{ne_eqb}
 use Rattle.std.proofs.lemmas.Bool.Decides.{nat_tests}
 use Rattle.std.proofs.lemmas.Int.{ints}
-use Rattle.ip_core.specs.Decimals.{Number, IsDecimal, negated}
+use Rattle.ip_core.specs.Decimals.{Number, IsDecimal, negation}
 use Rattle.ip_core.proofs.DecimalReduced.{negated_is}
 use Rattle.mps_model.specs.Numbers.{is_zero, is_infinite}
 use Rattle.width_admit.specs.Exact.{floor}
@@ -56,7 +56,7 @@ whole_finite n small = finite_by n (whole_decimal n) small (whole_is n (omega (a
 turned : (m : ℤ) → pos 0 -ℤ m ≡ neg_ℤ m
 turned m = omega (arith, ints)
 
-pub negated_is_decimal : (n : ℕ) → n < 10 ^ 18 → IsDecimal (negated (whole_decimal n))
+pub negated_is_decimal : (n : ℕ) → n < 10 ^ 18 → IsDecimal (negation (whole_decimal n))
 negated_is_decimal n small =
     let d = whole_decimal n in
     subst (λ m. IsDecimal (record { mantissa = m; exponent = d.exponent })) (turned d.mantissa) (negated_is d.mantissa d.exponent (whole_is_decimal n small))
@@ -72,10 +72,10 @@ whole_size n small = size_by n (whole_decimal n) (whole_is n small)
 pub turned_size : (z : ℤ) → unsigned_abs (neg_ℤ z) ≡ unsigned_abs z
 turned_size z = omega (arith, ints)
 
-negated_by : (n : ℕ) (d : Number) → HasSize n d → HasSize n (negated d)
+negated_by : (n : ℕ) (d : Number) → HasSize n d → HasSize n (negation d)
 negated_by n d s = record { exponent = s.exponent; is = s.is; value = ap (λ k. k * 10 ^ s.exponent) (turned_size d.mantissa) ∙ s.value }
 
-pub negated_size : (n : ℕ) → n < 2 ^ 64 → HasSize n (negated (whole_decimal n))
+pub negated_size : (n : ℕ) → n < 2 ^ 64 → HasSize n (negation (whole_decimal n))
 negated_size n small = negated_by n (whole_decimal n) (whole_size n small)
 
 -- rounded down it is itself

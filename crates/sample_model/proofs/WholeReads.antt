@@ -9,7 +9,7 @@ use Rattle.std.proofs.lemmas.List.{append-nil, length-append, reverse-append, ta
 use Rattle.std.proofs.lemmas.List.Sums.{suffix_len-le-length}
 use Rattle.std.proofs.Math.Nat.{pow-suc, mul_assoc}
 use Rattle.std.proofs.lemmas.Nat.{div-mul-add}
-use Rattle.ip_core.specs.Decimals.{Parts, IsDecimal, is_digit, is_sign, is_minus, is_zero, after_one, digits, after_digits, decimal, parts, with_fraction, leading, trailing, significant, power, reduced, lacks_digits, read_parts, read_decimal, in_range}
+use Rattle.ip_core.specs.Decimals.{Parts, IsDecimal, is_digit, is_sign, is_minus, is_zero, after_one, digits, after_digits, decimal, parts, with_fraction, leading_zeros, trailing_zeros, significant_digits, power, reduced_number, lacks_digits, read_parts, read_decimal, exponent_in_range}
 use Rattle.ip_core.proofs.DecimalDigits.{and_true, le_of_test}
 use Rattle.ip_core.proofs.DecimalPowers.{reduced_is}
 use Rattle.ip_core.proofs.DecimalPrints.{written_digits, first_run, after_run}
@@ -31,30 +31,30 @@ nothing_left v p n none some same = let zero_times : v * p ≡ 0 * p = ap (λ k.
 
 -- digits without the zeros at their end
 abbrev front : List ℕ → List ℕ
-front ds = take (length ds - trailing ds) ds
+front ds = take (length ds - trailing_zeros ds) ds
 
 -- digits that stand for n, and so do those before the zeros at their end under that power of ten
 record StandFor (n : ℕ) (ds : List ℕ) : Type 0 where
   pub value : decimal 0 ds ≡ n
-  pub parted : decimal 0 (front ds) * 10 ^ trailing ds ≡ n
+  pub parted : decimal 0 (front ds) * 10 ^ trailing_zeros ds ≡ n
 
-trailing_more : (xs : List ℕ) (d : ℕ) → trailing (xs ++ d ∷ []) ≡ cond (is_zero d) (1 + trailing xs) 0
+trailing_more : (xs : List ℕ) (d : ℕ) → trailing_zeros (xs ++ d ∷ []) ≡ cond (is_zero d) (1 + trailing_zeros xs) 0
 trailing_more xs d = ap (prefix_len is_zero) (reverse-append xs (d ∷ []))
 
 zero_is : (d : ℕ) → is_zero d ≡ true → d ≡ 48
 zero_is d h = grind (arith, nat_tests)
 
-parted_more : (b : Bool) (n q d : ℕ) (xs : List ℕ) → is_zero d ≡ b → q * 10 + (d - 48) ≡ n → StandFor q xs → decimal 0 (front (xs ++ d ∷ [])) * 10 ^ trailing (xs ++ d ∷ []) ≡ n
+parted_more : (b : Bool) (n q d : ℕ) (xs : List ℕ) → is_zero d ≡ b → q * 10 + (d - 48) ≡ n → StandFor q xs → decimal 0 (front (xs ++ d ∷ [])) * 10 ^ trailing_zeros (xs ++ d ∷ []) ≡ n
 parted_more true n q d xs h sum before =
-    let zeros_are : trailing (xs ++ d ∷ []) ≡ suc (trailing xs) = trailing_more xs d ∙ ap (λ t. cond t (1 + trailing xs) 0) h ∙ omega arith in
+    let zeros_are : trailing_zeros (xs ++ d ∷ []) ≡ suc (trailing_zeros xs) = trailing_more xs d ∙ ap (λ t. cond t (1 + trailing_zeros xs) 0) h ∙ omega arith in
     let long : length (xs ++ d ∷ []) ≡ suc (length xs) = length-append xs (d ∷ []) ∙ omega arith in
-    let left : length (xs ++ d ∷ []) - trailing (xs ++ d ∷ []) ≡ length xs - trailing xs = omega (arith, zeros_are, long) in
-    let same : front (xs ++ d ∷ []) ≡ front xs = ap (λ k. take k (xs ++ d ∷ [])) left ∙ take-append-le (length xs - trailing xs) xs (d ∷ []) (omega arith) in
-    let power_is : 10 ^ suc (trailing xs) ≡ 10 ^ trailing xs * 10 = pow-suc 10 (trailing xs) in
+    let left : length (xs ++ d ∷ []) - trailing_zeros (xs ++ d ∷ []) ≡ length xs - trailing_zeros xs = omega (arith, zeros_are, long) in
+    let same : front (xs ++ d ∷ []) ≡ front xs = ap (λ k. take k (xs ++ d ∷ [])) left ∙ take-append-le (length xs - trailing_zeros xs) xs (d ∷ []) (omega arith) in
+    let power_is : 10 ^ suc (trailing_zeros xs) ≡ 10 ^ trailing_zeros xs * 10 = pow-suc 10 (trailing_zeros xs) in
     let digit : d ≡ 48 = zero_is d h in
-    rw (same, zeros_are, power_is) (tenfold (decimal 0 (front xs)) (10 ^ trailing xs) q n before.parted (omega (arith, sum, digit)))
+    rw (same, zeros_are, power_is) (tenfold (decimal 0 (front xs)) (10 ^ trailing_zeros xs) q n before.parted (omega (arith, sum, digit)))
 parted_more false n q d xs h sum before =
-    let none : trailing (xs ++ d ∷ []) ≡ 0 = trailing_more xs d ∙ ap (λ t. cond t (1 + trailing xs) 0) h in
+    let none : trailing_zeros (xs ++ d ∷ []) ≡ 0 = trailing_more xs d ∙ ap (λ t. cond t (1 + trailing_zeros xs) 0) h in
     let all : front (xs ++ d ∷ []) ≡ xs ++ d ∷ [] = ap (λ t. take (length (xs ++ d ∷ []) - t) (xs ++ d ∷ [])) none ∙ take_all (length (xs ++ d ∷ []) - 0) (xs ++ d ∷ []) (omega arith) in
     let value : decimal 0 (xs ++ d ∷ []) ≡ n = decimal_more 0 d xs ∙ ap (λ v. v * 10 + (d - 48)) before.value ∙ sum in
     rw (all, none) (omega (arith, value))
@@ -105,21 +105,21 @@ parts_of (d ∷ ds) some all =
     ∙ ap (with_fraction false (d ∷ ds)) (none_after (d ∷ ds) all)
 
 read_of : (n : ℕ) (p : Parts) → p.left ≡ [] → lacks_digits p ≡ false
-    → read_parts n p ≡ reduced p.negative (significant (p.whole ++ p.fraction)) (power p.exponent_negative p.exponent (length p.fraction) (trailing (p.whole ++ p.fraction)))
+    → read_parts n p ≡ reduced_number p.negative (significant_digits (p.whole ++ p.fraction)) (power p.exponent_negative p.exponent (length p.fraction) (trailing_zeros (p.whole ++ p.fraction)))
 read_of n p none some = rw (none, some) refl
 
-read_alone : (n : ℕ) (ds : List ℕ) → 0 < length ds → read_parts n (alone ds) ≡ reduced false (significant ds) (pos (trailing ds))
+read_alone : (n : ℕ) (ds : List ℕ) → 0 < length ds → read_parts n (alone ds) ≡ reduced_number false (significant_digits ds) (pos (trailing_zeros ds))
 read_alone n ds some =
     let none : (length (ds ++ []) == 0) ≡ false = ne_eqb (length (ds ++ [])) 0 (λ e. omega (arith, some, e, length-append ds [])) in
     let some_digits : lacks_digits (alone ds) ≡ false = rw none refl in
-    let power_is : power false [] 0 (trailing (ds ++ [])) ≡ pos (trailing (ds ++ [])) = omega (arith, ints) in
-    read_of n (alone ds) refl some_digits ∙ ap (reduced false (significant (ds ++ []))) power_is ∙ ap (λ xs. reduced false (significant xs) (pos (trailing xs))) (append-nil ds)
+    let power_is : power false [] 0 (trailing_zeros (ds ++ [])) ≡ pos (trailing_zeros (ds ++ [])) = omega (arith, ints) in
+    read_of n (alone ds) refl some_digits ∙ ap (reduced_number false (significant_digits (ds ++ []))) power_is ∙ ap (λ xs. reduced_number false (significant_digits xs) (pos (trailing_zeros xs))) (append-nil ds)
 
-leading_none : (ds : List ℕ) → 48 < get_or ds 0 0 → leading ds ≡ 0
+leading_none : (ds : List ℕ) → 48 < get_or ds 0 0 → leading_zeros ds ≡ 0
 leading_none [] large = refl
 leading_none (d ∷ ds) large = rw (ne_eqb d 48 (λ e. omega (arith, large, e))) refl
 
-range_is : (e : ℤ) → neg_ℤ (pos 18) ≤ℤ e → e ≤ℤ pos 400 → in_range e ≡ Some e
+range_is : (e : ℤ) → neg_ℤ (pos 18) ≤ℤ e → e ≤ℤ pos 400 → exponent_in_range e ≡ Some e
 range_is e low high =
     let first : int_le (neg_ℤ (pos 18)) e ≡ true = grind (arith, ints) in
     let second : int_le e (pos 400) ≡ true = grind (arith, ints) in
@@ -136,15 +136,15 @@ positive_read n small some =
     let word : n < 2 ^ 64 = omega (arith, small) in
     let few : length ds ≤ 18 = length-decimal-le 18 n (omega arith) small word in
     let stand = stand_for n word in
-    let left : significant ds ≡ front ds = ap (λ k. drop k (front ds)) (leading_none ds (first_decimal n some word)) in
-    let short : length (front ds) ≤ 18 = omega (arith, few, length-take-le (length ds - trailing ds) ds (omega arith)) in
-    let many : 0 < length (front ds) = nonempty (front ds) (λ none. nothing_left (decimal 0 (front ds)) (10 ^ trailing ds) n none some stand.parted) in
-    let end : trailing ds ≤ 18 = omega (arith, few, suffix_len-le-length is_zero ds) in
+    let left : significant_digits ds ≡ front ds = ap (λ k. drop k (front ds)) (leading_none ds (first_decimal n some word)) in
+    let short : length (front ds) ≤ 18 = omega (arith, few, length-take-le (length ds - trailing_zeros ds) ds (omega arith)) in
+    let many : 0 < length (front ds) = nonempty (front ds) (λ none. nothing_left (decimal 0 (front ds)) (10 ^ trailing_zeros ds) n none some stand.parted) in
+    let end : trailing_zeros ds ≤ 18 = omega (arith, few, suffix_len-le-length is_zero ds) in
     ap (read_parts (length ds)) (parts_of ds (decimal_nonempty n word) (written_digits n word))
     ∙ read_alone (length ds) ds (decimal_nonempty n word)
-    ∙ ap (λ xs. reduced false xs (pos (trailing ds))) left
-    ∙ reduced_is false (front ds) (pos (trailing ds)) (pos (trailing ds)) many short (range_is (pos (trailing ds)) (omega (arith, ints)) (omega (arith, ints, end)))
-    ∙ ap (λ m. Ok (record { mantissa = pos m; exponent = pos (trailing ds) })) (whole_is n word)
+    ∙ ap (λ xs. reduced_number false xs (pos (trailing_zeros ds))) left
+    ∙ reduced_is false (front ds) (pos (trailing_zeros ds)) (pos (trailing_zeros ds)) many short (range_is (pos (trailing_zeros ds)) (omega (arith, ints)) (omega (arith, ints, end)))
+    ∙ ap (λ m. Ok (record { mantissa = pos m; exponent = pos (trailing_zeros ds) })) (whole_is n word)
 
 zero_read : read_decimal (digits_of 0) ≡ Ok (record { mantissa = pos 0; exponent = pos 0 })
 unfolding digits_written

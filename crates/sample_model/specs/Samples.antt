@@ -1,6 +1,6 @@
 -- Sample models: knapsack rows over small bounds, drawn from one number.
 use Rattle.std.specs.Prelude.{ℕ, ◌+◌, ◌/◌, ◌==◌, true, false, if◌then◌else◌, List, [], ◌∷◌, slice_index_or, None, codes}
-use Rattle.ip_core.specs.Decimals.{negated}
+use Rattle.ip_core.specs.Decimals.{negation}
 use Rattle.mps_model.specs.declared.model.Limit.TheVariants.{Unset, At}
 use Rattle.mps_model.specs.declared.model.RowKind.TheVariants.{Less}
 use Rattle.mps_model.specs.declared.model.MpsRow.{MpsRow}
@@ -39,7 +39,7 @@ abbrev pub col_of : List (List ℕ) → ℕ → ℕ → ℕ → MpsCol
 col_of coefficients j upper cost = record {
   name = numbered 67 j;
   integer = true;
-  cost = negated (whole_decimal cost);
+  cost = negation (whole_decimal cost);
   entries = entries_of j 0 coefficients;
   low = Unset;
   high = At (whole_decimal upper);

@@ -83,7 +83,7 @@ fn column(
     Ok(MpsCol {
         name: numbered(alloc, b'C', at)?,
         integer: true,
-        cost: whole(cost).negated(),
+        cost: whole(cost).negation(),
         entries: entries(alloc, knapsack, at)?,
         low: Limit::Unset,
         high: Limit::At(whole(upper)),

@@ -6,7 +6,7 @@ use Rattle.std.proofs.lemmas.Bool.{true≢false, or_parts}
 use Rattle.std.proofs.lemmas.List.Elements.{All-head, All-tail}
 use Rattle.std.proofs.Math.Nat.{mul-div-le, lt-div-mul-add}
 use Rattle.std.proofs.Math.IntN.{*ℤ_comm}
-use Rattle.ip_core.specs.Decimals.{Number, negated}
+use Rattle.ip_core.specs.Decimals.{Number, negation}
 use Rattle.ip_core.specs.Numbers.{int_at}
 use Rattle.ip_core.specs.Sides.{IsInside}
 use Rattle.ip_core.proofs.Quotients.{le-int_div_euclid}
@@ -67,13 +67,13 @@ below_power m v (negsuc e) least =
 below_floor : (n : Number) (v : ℤ) → neg_ℤ (pos 18) ≤ℤ n.exponent → ((v *ℤ pos (10 ^ 18)) ≤ℤ units n) ↔ (v ≤ℤ floor n)
 below_floor n v least = below_power n.mantissa v n.exponent least
 
-negated_units : (n : Number) → units (negated n) ≡ neg_ℤ (units n)
+negated_units : (n : Number) → units (negation n) ≡ neg_ℤ (units n)
 negated_units n = product_of_negated n.mantissa (10 ^ unsigned_abs (n.exponent +ℤ pos 18))
 
 -- and at least it exactly where it is at least its ceiling
 above_ceiling : (n : Number) (v : ℤ) → neg_ℤ (pos 18) ≤ℤ n.exponent → (units n ≤ℤ (v *ℤ pos (10 ^ 18))) ↔ (ceiling n ≤ℤ v)
 above_ceiling n v least =
-    let both = below_floor (negated n) (neg_ℤ v) least in
+    let both = below_floor (negation n) (neg_ℤ v) least in
     let turned = negated_units n in
     let value = product_of_negated v (10 ^ 18) in (
       λ le. let under = both.0 (omega (arith, ints, le, turned, value)) in omega (arith, ints, under),

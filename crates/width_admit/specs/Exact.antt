@@ -2,7 +2,7 @@
 use Rattle.std.specs.Prelude.{ℕ, zero, suc, ◌+◌, ◌-◌, ◌%◌, ◌^◌, ◌==◌, Bool, if◌then◌else◌, List, ℤ, pos, negsuc, neg_ℤ, ◌+ℤ◌, ◌*ℤ◌, unsigned_abs}
 use Rattle.std.specs.Int.{int_div_euclid}
 use Rattle.std.specs.List.{list_all}
-use Rattle.ip_core.specs.Decimals.{Number, negated}
+use Rattle.ip_core.specs.Decimals.{Number, negation}
 
 -- a decimal in units
 abbrev pub units : Number → ℤ
@@ -40,4 +40,4 @@ floor n = rounded_down n.mantissa n.exponent
 
 -- the least whole number that isn't below a decimal
 abbrev pub ceiling : Number → ℤ
-ceiling n = neg_ℤ (floor (negated n))
+ceiling n = neg_ℤ (floor (negation n))

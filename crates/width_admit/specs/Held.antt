@@ -1,6 +1,6 @@
 -- Numbers held down, so that they fit a word: what is above 2^52 is above every limit.
 use Rattle.std.specs.Prelude.{ℕ, ◌≡◌, ◌≤◌, ◌+◌, ◌*◌, ◌<◌, ◌^◌, min, Bool, true, nat_le, int_lt, List, [], ◌∷◌, length, map, ℤ, pos, unsigned_abs, slice_index_or, Option, Some, None, option_map, ◌++◌, ◌||◌, false, nat_lt, if◌then◌else◌}
-use Rattle.ip_core.specs.Decimals.{Number, signed}
+use Rattle.ip_core.specs.Decimals.{Number, signed_number}
 use Rattle.ip_core.specs.declared.row.Row.{Row}
 use Rattle.ip_core.specs.declared.row.Term.{Term}
 use Rattle.mps_model.specs.declared.model.MpsRow.{MpsRow}
@@ -21,7 +21,7 @@ use Rattle.ip_core.specs.declared.limits.TheConstants.{MAX_WIDTH}
 
 -- the number, or 2^52 under its sign where it reaches further from 0
 abbrev pub held : ℤ → ℤ
-held z = signed (int_lt z (pos 0)) (min (unsigned_abs z) CAP)
+held z = signed_number (int_lt z (pos 0)) (min (unsigned_abs z) CAP)
 
 -- 10^k makes all of these units whole exactly from k = n on
 pub record IsFinest (zs : List ℤ) (n : ℕ) : Type 0 where

@@ -1,6 +1,6 @@
 ghost use Rattle.std.specs.Prelude.{◌≡◌, ◌≤◌, ◌<◌, ◌*◌, ◌^◌, ◌∷◌, [], min, true, pos, negsuc, ◌+ℤ◌, ◌≤ℤ◌, unsigned_abs};
 ghost use Rattle.std.specs.Int.{int_div_euclid};
-ghost use Rattle.ip_core.specs.Decimals.{signed as signed_number};
+ghost use Rattle.ip_core.specs.Decimals.{signed_number};
 ghost use Rattle.width_admit.specs.Exact.{units, is_whole, floor as floor_of, ceiling as ceiling_of};
 ghost use Rattle.width_admit.specs.Held.{held, held_whole, IsFinest};
 
@@ -95,5 +95,5 @@ pub fn floor(value: Decimal) -> i64
 pub fn ceiling(value: Decimal) -> i64
     ensures { result ≡ held (ceiling_of value) }
 {
-    -floor(value.negated())
+    -floor(value.negation())
 }

@@ -3,14 +3,14 @@ use Rattle.std.proofs.lemmas.Bool.{ne_eqb}
 use Rattle.std.proofs.lemmas.List.{length-append, length-take-le}
 use Rattle.std.proofs.lemmas.List.Sums.{suffix_len-le-length, suffix_len-take_no, suffix_len-take_yes}
 use Rattle.std.proofs.Math.Seq.{take-length}
-use Rattle.ip_core.specs.Decimals.{is_zero, trailing}
+use Rattle.ip_core.specs.Decimals.{is_zero, trailing_zeros}
 use Rattle.ip_core.proofs.decimal.significant_end.Goals as goal
 
 pub loop-end-init : goal.loop-end-init
 loop-end-init c =
     let all = c.args.whole.now ++ c.args.fraction.now in
     let sum = length-append c.args.whole.now c.args.fraction.now in
-    let taken = ap (λ n. trailing (take n all)) (sym sum) ∙ ap trailing (take-length all) in
+    let taken = ap (λ n. trailing_zeros (take n all)) (sym sum) ∙ ap trailing_zeros (take-length all) in
     record { back = omega arith; within = omega arith }
 
 pub digit_at-requires : goal.digit_at-requires

@@ -1,7 +1,7 @@
 use Rattle.std.proofs.Common.{pos, ◌-ℤ◌, FitsSigned, w16, w64, arith}
 use Rattle.std.proofs.lemmas.Int.{ints, fits_signed_from_abs, to_z-of_z}
 use Rattle.ip_core.proofs.DecimalReduced.{negated_is}
-use Rattle.ip_core.proofs.decimal.Decimal.negated.Goals as goal
+use Rattle.ip_core.proofs.decimal.Decimal.negation.Goals as goal
 
 pub invariant_of-result : goal.invariant_of-result
 invariant_of-result c =
