@@ -1,17 +1,10 @@
-use Rattle.std.proofs.Common.{◌≡◌, ℕ, zero, suc, List, [], ◌∷◌, ℤ, pos, ◌+ℤ◌, ◌≤ℤ◌, set, refl, ap, arith}
+use Rattle.std.proofs.Common.{ℕ, List, ℤ, pos, ◌+ℤ◌, ◌≤ℤ◌, ap, arith}
 use Rattle.std.specs.Int.{int_min, int_max}
 use Rattle.std.proofs.lemmas.Int.{ints, clamps}
 use Rattle.ip_core.specs.Numbers.{int_at}
 use Rattle.ip_core.specs.Sides.{Sides, IsInside}
 use Rattle.search_truth.specs.Boxes.{low_child, high_child}
-
--- after a number was set, what held of each still holds, if it holds of the new one at its place
-pub set_keeps : (P : ℤ → Type 0) (xs : List ℤ) (i : ℕ) (v : ℤ) (j : ℕ) → P (int_at xs j) → (j ≡ i → P v) → P (int_at (set xs i v) j)
-set_keeps P [] i v j before here = before
-set_keeps P (x ∷ xs) zero v zero before here = here refl
-set_keeps P (x ∷ xs) zero v (suc j) before here = before
-set_keeps P (x ∷ xs) (suc i) v zero before here = before
-set_keeps P (x ∷ xs) (suc i) v (suc j) before here = set_keeps P xs i v j before (λ e. here (ap suc e))
+use Rattle.ip_core.proofs.NarrowerBoxes.{set_keeps}
 
 -- a point of the box whose column is at most `at` lies in the low part
 pub inside_low_child : (s : Sides) (col : ℕ) (at : ℤ) (y : List ℤ) → IsInside s y → int_at y col ≤ℤ at → IsInside (low_child s col at) y

@@ -1,14 +1,15 @@
-use Rattle.std.proofs.Common.{◌≡◌, ℕ, zero, suc, ◌<◌, List, length, ℤ, pos, negsuc, ◌+ℤ◌, ◌*ℤ◌, ◌≤ℤ◌, if◌then◌else◌, int_le, true, false, refl, arith}
+use Rattle.std.proofs.Common.{◌≡◌, ℕ, ◌<◌, List, length, ℤ, pos, negsuc, ◌*ℤ◌, ◌≤ℤ◌, if◌then◌else◌, int_le, true, false, arith}
 use Rattle.std.specs.Int.{int_min}
 use Rattle.std.proofs.lemmas.Int.{ints, clamps}
 use Rattle.std.proofs.lemmas.Bool.Decides.{nat_tests}
-use Rattle.ip_core.specs.Numbers.{int_at, int_sum_below}
+use Rattle.ip_core.specs.Numbers.{int_at}
 use Rattle.ip_core.specs.Sides.{Sides, IsInside, HasNoEmpty}
 use Rattle.ip_core.specs.Models.{IsModel}
 use Rattle.ip_core.specs.Truth.{value_at}
 use Rattle.ip_core.specs.declared.model.ModelParts.{ModelParts}
 use Rattle.ip_core.specs.Boxes.{IsWithin, least_share, least_value}
 use Rattle.search_truth.specs.Boxes.{IsCheapestCorner}
+use Rattle.ip_core.proofs.ColumnSums.{int_sum_below-same}
 use Rattle.ip_core.proofs.Products.{mul_pos-le, mul_negsuc-le}
 use Rattle.search_truth.proofs.Within.{inside_root, within_columns}
 
@@ -28,15 +29,6 @@ cheapest_product (negsuc n) low high ordered = int_min_right (negsuc n *ℤ low)
 
 end_inside : (c low high : ℤ) → low ≤ℤ high → (low ≤ℤ (if int_le (pos 0) c then low else high)) × ((if int_le (pos 0) c then low else high) ≤ℤ high)
 end_inside c low high ordered = elim (int_le (pos 0) c) as (λ b. (low ≤ℤ (if b then low else high)) × ((if b then low else high) ≤ℤ high)) [ true ↦ (omega (arith, ints), ordered) | false ↦ (ordered, omega (arith, ints)) ]
-
-same_sums : (a b c d : ℤ) → a ≡ c → b ≡ d → a +ℤ b ≡ c +ℤ d
-same_sums a b c d first second = rw (first, second) refl
-
--- equal terms have equal sums
-pub int_sum_below-same : (n : ℕ) (f g : ℕ → ℤ) → ((j : ℕ) → j < n → f j ≡ g j) → int_sum_below n f ≡ int_sum_below n g
-int_sum_below-same zero f g each = refl
-int_sum_below-same (suc n) f g each =
-    same_sums (int_sum_below n f) (f n) (int_sum_below n g) (g n) (int_sum_below-same n f g (λ j h. each j (omega arith))) (each n (omega arith))
 
 open_at : (m : ModelParts) (s : Sides) (x : List ℤ) (j : ℕ) → IsModel m → IsWithin m.root s → HasNoEmpty s → length x ≡ length m.cols → j < length x → int_at s.lows j ≤ℤ int_at s.highs j
 open_at m s x j valid within inhabited one_each known = (inhabited.all j (omega (arith, within_columns m s valid within))).ordered

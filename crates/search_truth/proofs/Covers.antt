@@ -1,4 +1,4 @@
-use Rattle.std.proofs.Common.{◌≡◌, ◌∙◌, ℕ, ◌<◌, ◌⊎◌, inl, inr, List, [], length, ℤ, pos, ◌+ℤ◌, ◌≤ℤ◌, Option, Some, None, Contains, refl, sym, ap, subst, arith}
+use Rattle.std.proofs.Common.{◌≡◌, ◌∙◌, ◌<◌, ◌⊎◌, inl, inr, List, [], length, ℤ, pos, ◌+ℤ◌, ◌≤ℤ◌, Option, Some, None, refl, sym, ap, subst, arith}
 use Rattle.std.proofs.lemmas.Int.{ints}
 use Rattle.std.proofs.lemmas.Option.{none-some, same_Some}
 use Rattle.ip_core.specs.Numbers.{int_at}
@@ -7,33 +7,35 @@ use Rattle.ip_core.specs.Models.{IsModel}
 use Rattle.ip_core.specs.Truth.{IsFeasible, value_at}
 use Rattle.ip_core.specs.declared.model.ModelParts.{ModelParts}
 use Rattle.search_truth.specs.Boxes.{low_child, high_child}
-use Rattle.search_truth.specs.Search.{Searched, Fate, Kept, Closed, Parted, Improves, Same, Found, Step, Steps, Done, More, begun, cutoff_of, IsTrueAnswer, SearchIsTrue}
+use Rattle.search_truth.specs.Search.{Searched, Fate, Kept, Closed, Parted, Improves, Same, Found, Step, Steps, Done, More, IsParted, start_of, cutoff_of, IsTrueAnswer, SearchIsTrue}
 use Rattle.search_truth.specs.Cover.{IsCovered, Covers, HasFeasibleBest}
 use Rattle.search_truth.proofs.Values.{value_at-le_greatest}
 use Rattle.search_truth.proofs.Children.{inside_low_child, inside_high_child}
 
 -- at the beginning the root box covers all
-pub covers_begun : (m : ModelParts) → Covers m (begun m)
-covers_begun m = record {
+pub covers_start : (m : ModelParts) → Covers m (start_of m)
+covers_start m = record {
   each = λ y feasible. inr (record { by = m.root; among = (0, omega arith, refl); inside = feasible.inside });
 }
 
 -- the cutoff only falls
 pub cutoff_falls : (m : ModelParts) (old new : Option (List ℤ)) → Improves m old new → cutoff_of m new ≤ℤ cutoff_of m old
 cutoff_falls m old new (Same same) = rw same (omega (arith, ints))
-cutoff_falls m old new (Found x feasible below is) = rw is (omega (arith, ints, below))
+cutoff_falls m old new (Found found) = rw found.is (omega (arith, ints, found.below))
 
 at_most_or_above : (a b : ℤ) → (a ≤ℤ b) ⊎ ((b +ℤ pos 1) ≤ℤ a)
 at_most_or_above a b = grind (arith, ints)
 
-parted_cases : (boxes : List Sides) (s : Sides) (col : ℕ) (at : ℤ) (y : List ℤ) → Contains boxes (low_child s col at) → Contains boxes (high_child s col at) → IsInside s y → (int_at y col ≤ℤ at) ⊎ ((at +ℤ pos 1) ≤ℤ int_at y col) → IsCovered boxes y
-parted_cases boxes s col at y lower upper inside (inl low) = record { by = low_child s col at; among = lower; inside = inside_low_child s col at y inside low }
-parted_cases boxes s col at y lower upper inside (inr high) = record { by = high_child s col at; among = upper; inside = inside_high_child s col at y inside high }
+parted_cases : (boxes : List Sides) (s : Sides) (y : List ℤ) (parted : IsParted boxes s) → IsInside s y → (int_at y parted.col ≤ℤ parted.at) ⊎ ((parted.at +ℤ pos 1) ≤ℤ int_at y parted.col) → IsCovered boxes y
+parted_cases boxes s y parted inside (inl low) =
+    record { by = low_child s parted.col parted.at; among = parted.low; inside = inside_low_child s parted.col parted.at y inside low }
+parted_cases boxes s y parted inside (inr high) =
+    record { by = high_child s parted.col parted.at; among = parted.high; inside = inside_high_child s parted.col parted.at y inside high }
 
 fate_cases : (m : ModelParts) (cutoff : ℤ) (boxes : List Sides) (s : Sides) (y : List ℤ) → IsFeasible m y → IsInside s y → Fate m cutoff boxes s → (cutoff ≤ℤ value_at m y) ⊎ IsCovered boxes y
 fate_cases m cutoff boxes s y feasible inside (Kept among) = inr (record { by = s; among = among; inside = inside })
 fate_cases m cutoff boxes s y feasible inside (Closed closed) = inl (closed.none_below y feasible inside)
-fate_cases m cutoff boxes s y feasible inside (Parted col at lower upper) = inr (parted_cases boxes s col at y lower upper inside (at_most_or_above (int_at y col) at))
+fate_cases m cutoff boxes s y feasible inside (Parted parted) = inr (parted_cases boxes s y parted inside (at_most_or_above (int_at y parted.col) parted.at))
 
 step_cases : (m : ModelParts) (old new : Searched) (y : List ℤ) → Step m old new → IsFeasible m y → (cutoff_of m old.best ≤ℤ value_at m y) ⊎ IsCovered old.boxes y → (cutoff_of m new.best ≤ℤ value_at m y) ⊎ IsCovered new.boxes y
 step_cases m old new y step feasible (inl above) = inl (omega (arith, ints, above, cutoff_falls m old.best new.best step.best))
@@ -53,7 +55,7 @@ no_point m = record { each = λ x is. absurd (none-some x is) }
 
 best_improves : (m : ModelParts) (old new : Option (List ℤ)) → Improves m old new → HasFeasibleBest m old → HasFeasibleBest m new
 best_improves m old new (Same same) known = rw same known
-best_improves m old new (Found y feasible below is) known = record { each = λ x is_x. subst (IsFeasible m) (same_Some y x (sym is ∙ is_x)) feasible }
+best_improves m old new (Found found) known = record { each = λ x is. subst (IsFeasible m) (same_Some found.point x (sym found.is ∙ is)) found.feasible }
 
 -- along a search that began with a feasible best point or with none, the best point is feasible
 pub best_steps : (m : ModelParts) (start s : Searched) → HasFeasibleBest m start.best → Steps m start s → HasFeasibleBest m s.best
@@ -61,8 +63,8 @@ best_steps m start s known Done = known
 best_steps m start s known (More old new steps step) = best_improves m old.best s.best step.best (best_steps m start old known steps)
 
 -- along a search from its beginning the best point is feasible
-pub best_feasible : (m : ModelParts) (s : Searched) (x : List ℤ) → Steps m (begun m) s → s.best ≡ Some x → IsFeasible m x
-best_feasible m s x steps is = (best_steps m (begun m) s (no_point m) steps).each x is
+pub best_feasible : (m : ModelParts) (s : Searched) (x : List ℤ) → Steps m (start_of m) s → s.best ≡ Some x → IsFeasible m x
+best_feasible m s x steps is = (best_steps m (start_of m) s (no_point m) steps).each x is
 
 answer_cases : (m : ModelParts) (best : Option (List ℤ)) → IsModel m → HasFeasibleBest m best → ((y : List ℤ) → IsFeasible m y → cutoff_of m best ≤ℤ value_at m y) → IsTrueAnswer m best
 answer_cases m None valid known none_below = record { none = λ y feasible. omega (arith, ints, none_below y feasible, value_at-le_greatest m m.root y valid feasible.one_each feasible.inside) }
@@ -80,4 +82,4 @@ covered_answer m s valid covers known empty =
 -- whatever the order of its steps, a search with no box left has a true answer
 pub search_is_true : SearchIsTrue
 search_is_true m s valid steps empty =
-    covered_answer m s valid (covers_steps m (begun m) s (covers_begun m) steps) (best_steps m (begun m) s (no_point m) steps) empty
+    covered_answer m s valid (covers_steps m (start_of m) s (covers_start m) steps) (best_steps m (start_of m) s (no_point m) steps) empty

@@ -1,35 +1,22 @@
-use Rattle.std.proofs.Common.{◌≡◌, ℕ, ◌≤◌, ◌≤ℤ◌, [], ◌∷◌, false, ℤ, pos, negsuc, unsigned_abs, Some, None, arith, refl}
+use Rattle.std.proofs.Common.{◌≡◌, ◌≤ℤ◌, [], ◌∷◌, ℤ, pos, negsuc, Some, None, arith, refl}
 use Rattle.std.proofs.lemmas.Int.{ints}
 use Rattle.std.proofs.lemmas.List.Elements.{All-nil, All-cons}
-use Rattle.ip_core.specs.Sides.{Sides, IsInside, IsWithinLimit}
-use Rattle.ip_core.specs.Rows.{IsTerm, AreTerms, IsRow, IsMet}
+use Rattle.ip_core.specs.Sides.{Sides, IsInside}
+use Rattle.ip_core.specs.Rows.{IsMet}
 use Rattle.ip_core.specs.Models.{IsModel}
 use Rattle.ip_core.specs.Truth.{HasNoPoint, IsBest, IsFeasible, value_at}
-use Rattle.ip_core.specs.declared.limits.TheConstants.{MAX_BOUND}
 use Rattle.ip_core.specs.declared.model.ModelParts.{ModelParts}
-use Rattle.ip_core.specs.declared.row.Row.{Row}
 use Rattle.ip_core.specs.Boxes.{least_value, greatest_value, greatest_activity, IsConflict, cheapest_end}
 use Rattle.search_truth.specs.Boxes.{IsClosed, low_child, high_child}
-use Rattle.search_truth.specs.Search.{Searched, Closed, Parted, Same, Found, Step, Done, More, begun, cutoff_of}
+use Rattle.search_truth.specs.Search.{Searched, Closed, Parted, Same, Found, Step, Done, More, start_of, cutoff_of}
+use Rattle.ip_core.proofs.SmallModels.{box, double, least_x, single, small_model}
 use Rattle.search_truth.proofs.Reasons.{closed_by_conflict_at, closed_by_bound}
 use Rattle.search_truth.proofs.Stepping.{step_amid}
 use Rattle.search_truth.proofs.Covers.{search_is_true}
 
--- the box of one column from `low` to `high`
-abbrev box : ℤ → ℤ → Sides
-box low high = record { lows = low ∷ []; highs = high ∷ [] }
-
--- 2x >= 3
-abbrev double : Row
-double = record { terms = record { col = 0; coef = pos 2 } ∷ []; least = pos 3 }
-
--- the least of x in 0 to 5 with 2x >= 3
-abbrev single : ModelParts
-single = record { name = 109 ∷ []; cols = (120 ∷ []) ∷ []; costs = pos 1 ∷ []; constant = pos 0; decimals = 0; maximise = false; root = box (pos 0) (pos 5); rows = double ∷ [] }
-
 -- the least of 2x - 3y in a box
 abbrev pair : Sides → ModelParts
-pair s = record { name = 112 ∷ []; cols = (120 ∷ []) ∷ (121 ∷ []) ∷ []; costs = pos 2 ∷ negsuc 2 ∷ []; constant = pos 0; decimals = 0; maximise = false; root = s; rows = [] }
+pair s = record single { cols = (120 ∷ []) ∷ (121 ∷ []) ∷ []; costs = pos 2 ∷ negsuc 2 ∷ []; root = s; rows = [] }
 
 abbrev square : Sides
 square = record { lows = negsuc 0 ∷ pos 1 ∷ []; highs = pos 4 ∷ pos 3 ∷ [] }
@@ -82,34 +69,15 @@ end_high = refl
 corner_pair : value_at (pair square) (negsuc 0 ∷ pos 3 ∷ []) ≡ negsuc 10
 corner_pair = refl
 
--- 2x >= 3 in a box of one column
-abbrev doubled_in : ℤ → ℤ → ModelParts
-doubled_in low high = record single { root = box low high }
-
-single_terms : AreTerms 1 double.terms
-single_terms = record { each = All-cons (IsTerm 1) _ [] (record { known = omega arith; nonzero = λ e. absurd (grind (arith, ints, e)) }) (All-nil (IsTerm 1)) }
-
-within_limit : (z : ℤ) → unsigned_abs z ≤ 5 → IsWithinLimit (z ∷ [])
-within_limit z small = record { each = All-cons (λ w. unsigned_abs w ≤ MAX_BOUND) z [] (omega arith) (All-nil (λ w. unsigned_abs w ≤ MAX_BOUND)) }
-
-is_model : (high : ℕ) → high ≤ 5 → IsModel (doubled_in (pos 0) (pos high))
-is_model high small = record {
-  bounds = record { columns = omega arith; costs = refl; box = refl; limits = record { lows = within_limit (pos 0) (omega arith); highs = within_limit (pos high) small } };
-  few = record { row_limit = omega arith; term_limit = omega arith };
-  rows = record { each = All-cons (IsRow 1 (box (pos 0) (pos high))) double [] (record { terms = single_terms; rising = λ k h. absurd (omega arith); narrow = omega arith }) (All-nil (IsRow 1 (box (pos 0) (pos high)))) };
-  objective = omega arith;
-  decimals = omega arith;
-}
-
 -- x in 0 to 1: the row closes the root box, and no point is feasible
-none_low : HasNoPoint (doubled_in (pos 0) (pos 1))
+none_low : HasNoPoint (least_x (box (pos 0) (pos 1)) (double ∷ []))
 none_low =
-    let m = doubled_in (pos 0) (pos 1) in
-    let valid : IsModel m = is_model 1 (omega arith) in
+    let m = least_x (box (pos 0) (pos 1)) (double ∷ []) in
+    let valid : IsModel m = small_model 1 (omega arith) in
     let none : Searched = record { boxes = []; best = None } in
     let closed : IsClosed m (cutoff_of m None) m.root = closed_by_conflict_at m (cutoff_of m None) m.root 0 double valid (omega arith) conflict_low in
-    let step : Step m (begun m) none = step_amid m (begun m) none [] [] m.root refl (λ c among. among) (λ c among. among) (Closed closed) (Same refl) in
-    search_is_true m none valid (More (begun m) none Done step) refl
+    let step : Step m (start_of m) none = step_amid m (start_of m) none [] [] m.root refl (λ c among. among) (λ c among. among) (Closed closed) (Same refl) in
+    search_is_true m none valid (More (start_of m) none Done step) refl
 
 inside_two : (low high : ℤ) → low ≤ℤ pos 2 → pos 2 ≤ℤ high → IsInside (box low high) (pos 2 ∷ [])
 inside_two low high above below = record {
@@ -122,12 +90,12 @@ best_single : IsBest single (pos 2 ∷ [])
 best_single =
     let low = box (pos 0) (pos 1) in
     let high = box (pos 2) (pos 5) in
-    let valid : IsModel single = is_model 5 (omega arith) in
+    let valid : IsModel single = small_model 5 (omega arith) in
     let parted : Searched = record { boxes = low ∷ high ∷ []; best = None } in
     let half : Searched = record { boxes = high ∷ []; best = None } in
     let whole : Searched = record { boxes = []; best = Some (pos 2 ∷ []) } in
-    let first : Step single (begun single) parted =
-    step_amid single (begun single) parted [] [] single.root refl (λ c among. absurd (omega (arith, among.1))) (λ c among. absurd (omega (arith, among.1))) (Parted 0 (pos 1) (0, omega arith, refl) (1, omega arith, refl)) (Same refl)
+    let first : Step single (start_of single) parted =
+    step_amid single (start_of single) parted [] [] single.root refl (λ c among. absurd (omega (arith, among.1))) (λ c among. absurd (omega (arith, among.1))) (Parted (record { col = 0; at = pos 1; low = (0, omega arith, refl); high = (1, omega arith, refl) })) (Same refl)
     in
     let second : Step single parted half =
     step_amid single parted half [] (high ∷ []) low refl (λ c among. absurd (omega (arith, among.1))) (λ c among. among) (Closed (closed_by_conflict_at single (pos 6) low 0 double valid (omega arith) conflict_low)) (Same refl)
@@ -138,6 +106,6 @@ best_single =
       rows_met = record { each = All-cons (IsMet (pos 2 ∷ [])) double [] (record { reached = omega (arith, ints) }) (All-nil (IsMet (pos 2 ∷ []))) };
     } in
     let third : Step single half whole =
-    step_amid single half whole [] [] high refl (λ c among. among) (λ c among. among) (Closed (closed_by_bound single (pos 2) high valid (omega (arith, ints)))) (Found (pos 2 ∷ []) feasible (omega (arith, ints)) refl)
+    step_amid single half whole [] [] high refl (λ c among. among) (λ c among. among) (Closed (closed_by_bound single (pos 2) high valid (omega (arith, ints)))) (Found (record { point = pos 2 ∷ []; feasible = feasible; below = omega (arith, ints); is = refl }))
     in
-    search_is_true single whole valid (More half whole (More parted half (More (begun single) parted Done first) second) third) refl
+    search_is_true single whole valid (More half whole (More parted half (More (start_of single) parted Done first) second) third) refl

@@ -4,6 +4,5 @@ pub mod Reasons
 pub mod Covers
 pub mod Within
 pub mod Corners
-pub mod Narrow
 pub mod Stepping
 pub mod Examples

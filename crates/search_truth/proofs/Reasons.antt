@@ -1,16 +1,17 @@
-use Rattle.std.proofs.Common.{◌≡◌, ℕ, ◌<◌, List, length, ℤ, ◌≤ℤ◌, get_or, Contains, arith}
+use Rattle.std.proofs.Common.{ℕ, ◌<◌, List, length, ℤ, ◌≤ℤ◌, get_or, Contains, arith}
 use Rattle.std.proofs.lemmas.Int.{ints}
 use Rattle.std.proofs.lemmas.List.Elements.{All-contains, Contains-get_or}
-use Rattle.ip_core.specs.Sides.{Sides, IsInside, IsEmptyAt, HasNoEmpty}
-use Rattle.ip_core.specs.Rows.{IsMet, IsRow, activity}
+use Rattle.ip_core.specs.Sides.{Sides, IsEmptyAt, HasNoEmpty}
+use Rattle.ip_core.specs.Rows.{IsMet, IsRow}
 use Rattle.ip_core.specs.Models.{IsModel}
 use Rattle.ip_core.specs.Truth.{value_at}
 use Rattle.ip_core.specs.declared.model.ModelParts.{ModelParts}
 use Rattle.ip_core.specs.declared.row.Row.{Row}
-use Rattle.ip_core.specs.Boxes.{IsWithin, IsConflict, least_value, greatest_activity}
+use Rattle.ip_core.specs.Boxes.{IsWithin, IsConflict, least_value}
 use Rattle.search_truth.specs.Boxes.{IsClosed, IsCheapestCorner}
 use Rattle.search_truth.proofs.Corners.{corner_least}
-use Rattle.search_truth.proofs.Values.{least_value-le, activity-le_greatest}
+use Rattle.ip_core.proofs.Activities.{conflict_meets_none}
+use Rattle.search_truth.proofs.Values.{least_value-le}
 
 -- a box with an empty column is closed
 pub closed_by_empty : (m : ModelParts) (cutoff : ℤ) (s : Sides) (j : ℕ) → j < length m.cols → IsEmptyAt s j → IsClosed m cutoff s
@@ -20,16 +21,11 @@ closed_by_empty m cutoff s j known empty = record {
       absurd (omega (arith, ints, inside.above j here, inside.below j here, empty.crossed));
 }
 
-no_conflict : (m : ModelParts) (s : Sides) (row : Row) (y : List ℤ) → IsRow (length m.cols) m.root row → IsMet y row → length y ≡ length m.cols → IsInside s y → IsConflict s row → ⊥
-no_conflict m s row y valid met one_each inside conflict =
-    let most : activity y row.terms ≤ℤ greatest_activity s row.terms = activity-le_greatest (length m.cols) s y row.terms valid.terms.each one_each inside in
-    omega (arith, ints, most, met.reached, conflict.below)
-
 -- a box over which a row asks for too much is closed
 pub closed_by_conflict : (m : ModelParts) (cutoff : ℤ) (s : Sides) (row : Row) → IsModel m → Contains m.rows row → IsConflict s row → IsClosed m cutoff s
 closed_by_conflict m cutoff s row valid among conflict = record {
   none_below = λ y feasible inside.
-      absurd (no_conflict m s row y (All-contains (IsRow (length m.cols) m.root) m.rows row valid.rows.each among) (All-contains (IsMet y) m.rows row feasible.rows_met.each among) feasible.one_each inside conflict);
+      absurd (conflict_meets_none (length m.cols) s row y (All-contains (IsRow (length m.cols) m.root) m.rows row valid.rows.each among).terms feasible.one_each inside conflict (All-contains (IsMet y) m.rows row feasible.rows_met.each among));
 }
 
 -- the same of the row at place k

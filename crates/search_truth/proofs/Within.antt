@@ -1,37 +1,19 @@
-use Rattle.std.proofs.Common.{◌≡◌, ◌∙◌, ℕ, ◌≤◌, List, length, ℤ, pos, ◌+ℤ◌, ◌≤ℤ◌, length-set, refl, ap, arith}
-use Rattle.std.specs.Int.{int_min, int_max}
-use Rattle.std.proofs.lemmas.Int.{ints, clamps}
-use Rattle.ip_core.specs.Numbers.{int_at}
+use Rattle.std.proofs.Common.{◌≡◌, ◌∙◌, ℕ, ◌≤◌, List, length, ℤ, pos, ◌+ℤ◌, arith}
+use Rattle.std.proofs.lemmas.Int.{ints}
 use Rattle.ip_core.specs.Sides.{Sides, IsInside, IsPaired, HasNoEmpty, with_low, with_high}
 use Rattle.ip_core.specs.Models.{IsModel}
 use Rattle.ip_core.specs.declared.model.ModelParts.{ModelParts}
 use Rattle.ip_core.specs.Boxes.{IsWithin}
 use Rattle.search_truth.specs.Boxes.{low_child, high_child}
-use Rattle.search_truth.proofs.Children.{set_keeps}
-
--- a box lies within itself
-pub within_itself : (s : Sides) → IsWithin s s
-within_itself s = record { as_many_lows = refl; as_many_highs = refl; lows = λ j h. omega (arith, ints); highs = λ j h. omega (arith, ints) }
+use Rattle.ip_core.proofs.NarrowerBoxes.{within_both, within_raised, within_lowered}
 
 -- a box within the root box stays within it where a low is raised
 pub within_with_low : (root s : Sides) (col : ℕ) (low : ℤ) → IsWithin root s → IsWithin root (with_low s col low)
-within_with_low root s col low within = record {
-  as_many_lows = length-set s.lows col (int_max (int_at s.lows col) low) ∙ within.as_many_lows;
-  as_many_highs = within.as_many_highs;
-  lows = λ j h. set_keeps (λ z. int_at root.lows j ≤ℤ z) s.lows col (int_max (int_at s.lows col) low) j (within.lows j (rw length-set at h)) (λ e.
-      omega (arith, ints, clamps, within.lows j (rw length-set at h), ap (int_at s.lows) e));
-  highs = λ j h. within.highs j (rw length-set at h);
-}
+within_with_low root s col low within = within_both root s (with_low s col low) within (within_raised s col low)
 
 -- and where a high is lowered
 pub within_with_high : (root s : Sides) (col : ℕ) (high : ℤ) → IsWithin root s → IsWithin root (with_high s col high)
-within_with_high root s col high within = record {
-  as_many_lows = within.as_many_lows;
-  as_many_highs = length-set s.highs col (int_min (int_at s.highs col) high) ∙ within.as_many_highs;
-  lows = within.lows;
-  highs = λ j h. set_keeps (λ z. z ≤ℤ int_at root.highs j) s.highs col (int_min (int_at s.highs col) high) j (within.highs j h) (λ e.
-      omega (arith, ints, clamps, within.highs j h, ap (int_at s.highs) e));
-}
+within_with_high root s col high within = within_both root s (with_high s col high) within (within_lowered s col high)
 
 -- so both parts of it lie within the root box
 pub within_low_child : (root s : Sides) (col : ℕ) (at : ℤ) → IsWithin root s → IsWithin root (low_child s col at)

@@ -1,17 +1,9 @@
-use Rattle.std.specs.Prelude.{ℕ, ◌≡◌, ◌<◌, if◌then◌else◌, List, length, ℤ, pos, ◌+ℤ◌, ◌*ℤ◌, ◌≤ℤ◌, ◌<ℤ◌, int_le, unsigned_abs, ◌≤◌}
-use Rattle.std.specs.Int.{int_min, int_max}
-use Rattle.ip_core.specs.Numbers.{int_at, int_sum_by, int_sum_below}
-use Rattle.ip_core.specs.Sides.{Sides, IsInside, reach, with_low, with_high}
+use Rattle.std.specs.Prelude.{ℕ, ◌≡◌, ◌<◌, List, length, ℤ, pos, ◌+ℤ◌, ◌≤ℤ◌}
+use Rattle.ip_core.specs.Numbers.{int_at}
+use Rattle.ip_core.specs.Sides.{Sides, IsInside, with_low, with_high}
 use Rattle.ip_core.specs.Truth.{IsFeasible, value_at}
 use Rattle.ip_core.specs.declared.model.ModelParts.{ModelParts}
-use Rattle.ip_core.specs.declared.row.Row.{Row}
-use Rattle.ip_core.specs.declared.row.Term.{Term}
 use Rattle.ip_core.specs.Boxes.{cheapest_end}
-
--- both ends of each column are no further from 0 than the root box reaches there
-pub record IsInReach (root s : Sides) : Type 0 where
-  pub lows : (j : ℕ) → j < length s.lows → unsigned_abs (int_at s.lows j) ≤ reach root j
-  pub highs : (j : ℕ) → j < length s.lows → unsigned_abs (int_at s.highs j) ≤ reach root j
 
 -- the part of the box where the column is at most `at`
 abbrev pub low_child : Sides → ℕ → ℤ → Sides

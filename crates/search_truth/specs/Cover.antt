@@ -12,7 +12,8 @@ pub record IsCovered (boxes : List Sides) (y : List ℤ) : Type 0 where
 
 -- each feasible point has a value not below the cutoff or lies in one of the boxes that are left
 pub record Covers (m : ModelParts) (s : Searched) : Type 0 where
-  pub each : (y : List ℤ) → IsFeasible m y → (cutoff_of m s.best ≤ℤ value_at m y) ⊎ IsCovered s.boxes y
+  pub each :
+      (y : List ℤ) → IsFeasible m y → (cutoff_of m s.best ≤ℤ value_at m y) ⊎ IsCovered s.boxes y
 
 -- a best point, if there is one, is feasible
 pub record HasFeasibleBest (m : ModelParts) (best : Option (List ℤ)) : Type 0 where
