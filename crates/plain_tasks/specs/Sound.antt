@@ -3,7 +3,7 @@ use Rattle.std.specs.Prelude.{◌≡◌, List, ◌++◌, map, ℤ, Option, Some,
 use Rattle.ip_core.specs.Sides.{Sides}
 use Rattle.ip_core.specs.Truth.{IsFeasible, value_at}
 use Rattle.ip_core.specs.declared.model.ModelParts.{ModelParts}
-use Rattle.search_truth.specs.Search.{Searched, Steps, begun, cutoff_of}
+use Rattle.search_truth.specs.Search.{Searched, Steps, start_of, cutoff_of}
 use Rattle.plain_tasks.specs.declared.node.Node.{Node}
 use Rattle.plain_tasks.specs.declared.view.Best.{Best}
 use Rattle.plain_tasks.specs.declared.view.View.{View}
@@ -28,6 +28,6 @@ IsFound m (Some best) = IsFeasible m best.point × (best.value ≡ value_at m be
 
 -- a view that a search comes to, with the cutoff of its best point, which is feasible
 pub record IsSound (m : ModelParts) (v : View) : Type 0 where
-  pub steps : Steps m (begun m) (searched_of v)
+  pub steps : Steps m (start_of m) (searched_of v)
   pub cutoff : v.cutoff ≡ cutoff_of m (best_point v.best)
   pub found : IsFound m v.best

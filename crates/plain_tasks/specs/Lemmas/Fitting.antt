@@ -5,7 +5,8 @@ use Rattle.std.proofs.lemmas.List.Elements.{All-nil, All-cons, All-head, All-tai
 use Rattle.ip_core.specs.Sides.{Sides, IsPaired}
 use Rattle.ip_core.specs.declared.model.ModelParts.{ModelParts}
 use Rattle.search_truth.specs.Boxes.{low_child, high_child}
-use Rattle.search_truth.proofs.Within.{within_itself, within_low_child, within_high_child}
+use Rattle.ip_core.proofs.NarrowerBoxes.{within_itself}
+use Rattle.search_truth.proofs.Within.{within_low_child, within_high_child}
 use Rattle.work_stamp.specs.declared.entry.Entry.{Entry}
 use Rattle.work_stamp.specs.declared.entry.Entry.TheVariants.{Start, CutStart, HeurStart, Done, Found, Cut, Split, Closed, Halt}
 use Rattle.plain_tasks.specs.Fits.{FitsView, HasRoom, IsNode}

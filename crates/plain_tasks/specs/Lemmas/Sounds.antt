@@ -57,7 +57,7 @@ parted_sound : (m : ModelParts) (v w : View) (name : ℕ) (node : Node) (col : �
     → ((c : Sides) → Contains (boxes_of v.open_nodes) c → Contains (searched_of w).boxes c) → ((c : Sides) → Contains (boxes_of (without name v.held_nodes)) c → Contains (searched_of w).boxes c)
     → Contains (searched_of w).boxes (low_child node.bounds col at) → Contains (searched_of w).boxes (high_child node.bounds col at) → IsSound m w
 parted_sound m v w name node col at sound first best cutoff before after lower upper = record {
-  steps = More (searched_of v) (searched_of w) sound.steps (held_step m v w name node first best before after (Parted col at lower upper));
+  steps = More (searched_of v) (searched_of w) sound.steps (held_step m v w name node first best before after (Parted (record { col = col; at = at; low = lower; high = upper })));
   cutoff = cutoff ∙ sound.cutoff ∙ ap (λ (b : Option Best). cutoff_of m (best_point b)) (sym best);
   found = subst (IsFound m) (sym best) sound.found;
 }
@@ -115,7 +115,12 @@ found_cases : (m : ModelParts) (v : View) (value : ℤ) (point : List ℤ) (t : 
 found_cases m v value point true is sound valued = record {
   steps = More (searched_of v) (record { boxes = (searched_of v).boxes; best = Some point }) sound.steps (record {
     fates = λ s among. Kept among;
-    best = IsNewBest point valued.feasible (let told = valued.told in let cutoff = sound.cutoff in let below : value <ℤ v.cutoff = grind (arith, ints) in omega (arith, ints)) refl;
+    best = IsNewBest (record {
+      point = point;
+      feasible = valued.feasible;
+      below = (let told = valued.told in let cutoff = sound.cutoff in let below : value <ℤ v.cutoff = grind (arith, ints) in omega (arith, ints));
+      is = refl;
+    });
   });
   cutoff = valued.told;
   found = (valued.feasible, valued.told);
