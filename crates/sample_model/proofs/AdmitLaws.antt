@@ -20,9 +20,9 @@ use Rattle.ip_core.specs.declared.limits.TheConstants.{MAX_COLUMNS, MAX_WIDTH, M
 use Rattle.mps_model.specs.declared.model.MpsRow.{MpsRow}
 use Rattle.mps_model.specs.declared.model.MpsEntry.{MpsEntry}
 use Rattle.mps_model.specs.declared.model.MpsCol.{MpsCol}
-use Rattle.width_admit.specs.declared.error.AdmitError.{AdmitError}
-use Rattle.width_admit.specs.declared.error.AdmitError.TheVariants.{RowTooFine, RowTooWide, ObjectiveTooWide}
-use Rattle.width_admit.specs.Admission.{minimised, first_from, refused_if}
+use Rattle.width_admit.specs.declared.refusal.Refusal.{Refusal}
+use Rattle.width_admit.specs.declared.refusal.Refusal.TheVariants.{RowTooFine, RowTooWide, ObjectiveTooWide}
+use Rattle.width_admit.specs.Admission.{minimised_number, first_from, refusal_if}
 use Rattle.width_admit.specs.Columns.{is_continuous, has_negative_upper, is_unbounded, has_large_bound}
 use Rattle.width_admit.specs.Exact.{units, is_whole, whole, are_whole, least_from, exponent_of}
 use Rattle.width_admit.specs.ExactRows.{ExactRow, entry_terms, exact_terms, exact_row, row_exponent, whole_term, whole_terms, negated_term, negated_terms, whole_rows, admitted_rows, rows_from, is_too_fine, is_too_wide}
@@ -236,7 +236,7 @@ costs_exponent cols constant all fixed =
     (All-append P (map (λ (c : MpsCol). units c.cost) cols) (units constant ∷ []) (costs_whole cols all) (All-cons P (units constant) [] (units_whole 100 (units constant) fixed) (All-nil P)))
 
 abbrev costs_at : ℕ → List MpsCol → List ℤ
-costs_at k cols = map (λ (c : MpsCol). minimised false (whole k (units c.cost))) cols
+costs_at k cols = map (λ (c : MpsCol). minimised_number false (whole k (units c.cost))) cols
 
 costs_small : (cols : List MpsCol) → All IsPlainCol cols → All (λ z. unsigned_abs z ≤ 100) (costs_at 0 cols)
 costs_small [] all = All-nil (λ z. unsigned_abs z ≤ 100)
@@ -256,14 +256,14 @@ part_small box xs j limits all =
 costs_narrow : (box : Sides) (cols : List MpsCol) (constant : Number) → HasLimits box → All IsPlainCol cols → length cols ≤ MAX_COLUMNS → IsWholeUnits 100 (units constant) → objective_width box (costs_at 0 cols) (whole 0 (units constant)) ≤ MAX_WIDTH
 costs_narrow box cols constant limits all few fixed =
     let sum = sum_below_le (length (costs_at 0 cols)) (100 * 2 ^ 31) (λ j. part_width box (int_at (costs_at 0 cols) j) j) (λ j. part_small box (costs_at 0 cols) j limits (costs_small cols all)) in
-    let long : length (costs_at 0 cols) ≡ length cols = length-map cols (λ (c : MpsCol). minimised false (whole 0 (units c.cost))) in
+    let long : length (costs_at 0 cols) ≡ length cols = length-map cols (λ (c : MpsCol). minimised_number false (whole 0 (units c.cost))) in
     let size = whole_small 100 (units constant) fixed in
     omega (arith, sum, long, size, few)
 
 pub objective_not_wide : (box : Sides) (cols : List MpsCol) (constant : Number) (k : ℕ) → k ≡ 0 → HasLimits box → All IsPlainCol cols → length cols ≤ MAX_COLUMNS → IsWholeUnits 100 (units constant)
-    → (nat_lt MAX_DECIMALS k || nat_lt MAX_WIDTH (objective_width box (costs_at k cols) (minimised false (whole k (units constant))))) ≡ false
+    → (nat_lt MAX_DECIMALS k || nat_lt MAX_WIDTH (objective_width box (costs_at k cols) (minimised_number false (whole k (units constant))))) ≡ false
 objective_not_wide box cols constant k none limits all few fixed =
-    ap (λ e. nat_lt MAX_DECIMALS e || nat_lt MAX_WIDTH (objective_width box (costs_at e cols) (minimised false (whole e (units constant))))) none
+    ap (λ e. nat_lt MAX_DECIMALS e || nat_lt MAX_WIDTH (objective_width box (costs_at e cols) (minimised_number false (whole e (units constant))))) none
     ∙ not_above MAX_WIDTH (objective_width box (costs_at 0 cols) (whole 0 (units constant))) (costs_narrow box cols constant limits all few fixed)
 
 -- ---- no refusal
@@ -272,8 +272,8 @@ pub none_first : {A : Type 0} (test : ℕ → A → Bool) (P : A → Type 0) (i 
 none_first test P i [] fails all = refl
 none_first test P i (x ∷ xs) fails all = rw (fails i x (All-head P x xs all)) (none_first test P (i + 1) xs fails (All-tail P x xs all))
 
-pub none_of_three : (a b c : Option AdmitError) → a ≡ None → b ≡ None → c ≡ None → option_or a (option_or b c) ≡ None
+pub none_of_three : (a b c : Option Refusal) → a ≡ None → b ≡ None → c ≡ None → option_or a (option_or b c) ≡ None
 none_of_three a b c x y z = rw (x, y, z) refl
 
-pub no_width : (a b : Option ℕ) (d : Bool) → a ≡ None → b ≡ None → d ≡ false → option_or (option_map RowTooFine a) (option_or (option_map RowTooWide b) (refused_if d ObjectiveTooWide)) ≡ None
+pub no_width : (a b : Option ℕ) (d : Bool) → a ≡ None → b ≡ None → d ≡ false → option_or (option_map RowTooFine a) (option_or (option_map RowTooWide b) (refusal_if d ObjectiveTooWide)) ≡ None
 no_width a b d x y z = rw (x, y, z) refl

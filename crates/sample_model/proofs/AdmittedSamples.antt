@@ -6,7 +6,7 @@ use Rattle.ip_core.specs.Sides.{HasLimits}
 use Rattle.ip_core.specs.declared.limits.TheConstants.{MAX_COLUMNS, MAX_ROWS, MAX_TERMS}
 use Rattle.mps_model.specs.declared.model.MpsEntry.{MpsEntry}
 use Rattle.mps_model.specs.declared.model.MpsModel.{MpsModel}
-use Rattle.width_admit.specs.Admission.{admitted, refusal, column_refusal, count_refusal, width_refusal, first_column, first_fine, first_wide, has_many_columns, has_many_rows, has_many_terms, has_wide_objective, objective_exponent}
+use Rattle.width_admit.specs.Admission.{admitted_model, refusal, column_refusal, count_refusal, width_refusal, first_column, first_too_fine, first_too_wide, has_many_columns, has_many_rows, has_many_terms, has_wide_objective, objective_exponent}
 use Rattle.width_admit.specs.Columns.{root, is_continuous, has_negative_upper, is_unbounded, has_large_bound}
 use Rattle.width_admit.specs.Exact.{units}
 use Rattle.width_admit.specs.ExactRows.{exact_row, is_too_fine, is_too_wide}
@@ -116,7 +116,7 @@ not_wide m plain limits =
 no_width_refused : (m : MpsModel) → IsPlain m → width_refusal m None ≡ None
 no_width_refused m plain =
     let limits : HasLimits (root None m.cols) = root_limits None m.cols (no_large m plain) in
-    no_width (first_fine m) (first_wide m None) (has_wide_objective m None)
+    no_width (first_too_fine m) (first_too_wide m None) (has_wide_objective m None)
     (none_first (λ i row. is_too_fine (exact_row m.cols i row)) IsPlainRow 0 m.rows (λ i row p. row_not_fine m.cols i row plain.cols p) plain.rows)
     (none_first (λ i row. is_too_wide (root None m.cols) (exact_row m.cols i row)) IsPlainRow 0 m.rows (λ i row p. row_not_wide (length m.rows) (root None m.cols) m.cols i row limits plain.cols plain.valid.each plain.few_columns p) plain.rows)
     (not_wide m plain limits)
@@ -150,4 +150,4 @@ pub samples_are_admitted : SamplesAreAdmitted
 unfolding generated
 samples_are_admitted number =
     let plain : IsPlain (sample 100 400 number) = sample_plain 100 400 number (omega arith) (omega arith) (omega arith) in
-    (admitted (sample 100 400 number) None, record { unrefused = not_refused (sample 100 400 number) plain; whole = refl })
+    (admitted_model (sample 100 400 number) None, record { unrefused = not_refused (sample 100 400 number) plain; whole = refl })

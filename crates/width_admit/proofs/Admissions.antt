@@ -8,8 +8,8 @@ use Rattle.mps_model.specs.declared.model.RowKind.{RowKind}
 use Rattle.mps_model.specs.declared.model.RowKind.TheVariants.{Less, Greater, Equal}
 use Rattle.mps_model.specs.declared.model.Limit.{Limit}
 use Rattle.mps_model.specs.declared.model.Limit.TheVariants.{Unset, Free, At}
-use Rattle.width_admit.specs.declared.error.AdmitError.TheVariants.{Continuous, NegativeUpper, Unbounded, BoundTooLarge, TooManyColumns, RowTooFine, RowTooWide, ObjectiveTooWide}
-use Rattle.width_admit.specs.Admission.{admitted, refusal}
+use Rattle.width_admit.specs.declared.refusal.Refusal.TheVariants.{Continuous, NegativeUpper, Unbounded, BoundTooLarge, TooManyColumns, RowTooFine, RowTooWide, ObjectiveTooWide}
+use Rattle.width_admit.specs.Admission.{admitted_model, refusal}
 
 -- small models with what they are admitted as, or why they are refused
 
@@ -42,7 +42,7 @@ ranged maximise = model maximise (number 0) (row Equal (number 5) (Some (minus 2
 pub ranged_passes : refusal (ranged false) None ≡ None
 ranged_passes = refl
 
-pub ranged_is : admitted (ranged false) None ≡ record {
+pub ranged_is : admitted_model (ranged false) None ≡ record {
   name = codes "T";
   cols = codes "x" ∷ [];
   costs = pos 1 ∷ [];
@@ -57,23 +57,23 @@ pub ranged_is : admitted (ranged false) None ≡ record {
 }
 ranged_is = refl
 
-pub maximised_costs : (admitted (ranged true) None).costs ≡ negsuc 0 ∷ []
+pub maximised_costs : (admitted_model (ranged true) None).costs ≡ negsuc 0 ∷ []
 maximised_costs = refl
 
 -- a constant of -10, and one of 0.5 under which costs of 1 have one decimal
-pub constant_is : (admitted (model true (minus 10) [] (column (number 1) [] Unset (At (number 1)) ∷ [])) None).constant ≡ pos 10
+pub constant_is : (admitted_model (model true (minus 10) [] (column (number 1) [] Unset (At (number 1)) ∷ [])) None).constant ≡ pos 10
 constant_is = refl
 
 abbrev half_constant : MpsModel
 half_constant = model false (decimal (pos 5) (negsuc 0)) [] (column (number 1) [] Unset (At (number 1)) ∷ [])
 
-pub half_constant-decimals : (admitted half_constant None).decimals ≡ 1
+pub half_constant-decimals : (admitted_model half_constant None).decimals ≡ 1
 half_constant-decimals = refl
 
-pub half_constant-costs : (admitted half_constant None).costs ≡ pos 10 ∷ []
+pub half_constant-costs : (admitted_model half_constant None).costs ≡ pos 10 ∷ []
 half_constant-costs = refl
 
-pub half_constant-constant : (admitted half_constant None).constant ≡ pos 5
+pub half_constant-constant : (admitted_model half_constant None).constant ≡ pos 5
 half_constant-constant = refl
 
 -- the small packing model: costs of hundredths, and a row of at most
@@ -87,13 +87,13 @@ packing = model false (number 0) (row Less (number 7) None ∷ [])
 pub packing_passes : refusal packing None ≡ None
 packing_passes = refl
 
-pub packing_costs : (admitted packing None).costs ≡ negsuc 224 ∷ negsuc 149 ∷ negsuc 39 ∷ []
+pub packing_costs : (admitted_model packing None).costs ≡ negsuc 224 ∷ negsuc 149 ∷ negsuc 39 ∷ []
 packing_costs = refl
 
-pub packing_decimals : (admitted packing None).decimals ≡ 2
+pub packing_decimals : (admitted_model packing None).decimals ≡ 2
 packing_decimals = refl
 
-pub packing_rows : (admitted packing None).rows ≡ record {
+pub packing_rows : (admitted_model packing None).rows ≡ record {
   terms = record { col = 0; coef = negsuc 2 } ∷ record { col = 1; coef = negsuc 1 } ∷ record { col = 2; coef = negsuc 0 } ∷ [];
   least = negsuc 6;
 } ∷ []
@@ -104,7 +104,7 @@ abbrev fine_side : MpsModel
 fine_side = model false (number 0) (row Less (decimal (pos 125) (negsuc 1)) (Some (decimal (pos 75) (negsuc 1))) ∷ [])
     (column (number 0) (entry 0 (decimal (pos 5) (negsuc 0)) ∷ []) Unset (At (number 1)) ∷ column (number 0) (entry 0 (number 1) ∷ []) Unset (At (number 1)) ∷ [])
 
-pub fine_side-rows : (admitted fine_side None).rows ≡
+pub fine_side-rows : (admitted_model fine_side None).rows ≡
     record { terms = record { col = 0; coef = pos 50 } ∷ record { col = 1; coef = pos 100 } ∷ []; least = pos 50 }
     ∷ record { terms = record { col = 0; coef = negsuc 49 } ∷ record { col = 1; coef = negsuc 99 } ∷ []; least = negsuc 124 }
     ∷ []
@@ -120,11 +120,11 @@ open_high-refused = refl
 pub open_high-passes : refusal open_high (Some 9) ≡ None
 open_high-passes = refl
 
-pub open_high-root : (admitted open_high (Some 9)).root ≡ record { lows = pos 0 ∷ []; highs = pos 9 ∷ [] }
+pub open_high-root : (admitted_model open_high (Some 9)).root ≡ record { lows = pos 0 ∷ []; highs = pos 9 ∷ [] }
 open_high-root = refl
 
 -- a given high doesn't replace a number, and a low that is free is refused whatever is given
-pub given_is_kept : (admitted (model false (number 0) [] (column (number 0) [] Unset (At (number 3)) ∷ [])) (Some 9)).root.highs ≡ pos 3 ∷ []
+pub given_is_kept : (admitted_model (model false (number 0) [] (column (number 0) [] Unset (At (number 3)) ∷ [])) (Some 9)).root.highs ≡ pos 3 ∷ []
 given_is_kept = refl
 
 pub free_low : refusal (model false (number 0) [] (column (number 0) [] Free (At (number 3)) ∷ [])) (Some 9) ≡ Some (Unbounded 0)
@@ -137,7 +137,7 @@ empty_box = model false (number 0) [] (column (number 0) [] (At (decimal (pos 5)
 pub empty_box-passes : refusal empty_box None ≡ None
 empty_box-passes = refl
 
-pub empty_box-root : (admitted empty_box None).root ≡ record { lows = pos 1 ∷ []; highs = pos 0 ∷ [] }
+pub empty_box-root : (admitted_model empty_box None).root ≡ record { lows = pos 1 ∷ []; highs = pos 0 ∷ [] }
 empty_box-root = refl
 
 -- a negative high without a low, even -0.5; with a low it is no cause

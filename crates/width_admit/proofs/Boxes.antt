@@ -6,7 +6,7 @@ use Rattle.ip_core.specs.declared.limits.TheConstants.{MAX_BOUND}
 use Rattle.mps_model.specs.declared.model.MpsCol.{MpsCol}
 use Rattle.width_admit.specs.Columns.{low, high, root, is_large, has_large_bound}
 use Rattle.width_admit.specs.Admission.{first_from}
-use Rattle.width_admit.specs.Held.{held}
+use Rattle.width_admit.specs.Held.{held_number}
 use Rattle.width_admit.proofs.Firsts.{none_cons}
 use Rattle.width_admit.proofs.HeldNumbers.{held_is}
 
@@ -15,18 +15,18 @@ use Rattle.width_admit.proofs.HeldNumbers.{held_is}
 small_bound : (z : ℤ) → is_large z ≡ false → unsigned_abs z ≤ MAX_BOUND
 small_bound z h = ltb-false MAX_BOUND (unsigned_abs z) h
 
-held_bound : (z : ℤ) → is_large z ≡ false → held z ≡ z
+held_bound : (z : ℤ) → is_large z ≡ false → held_number z ≡ z
 held_bound z h = let small = small_bound z h in held_is z (omega (arith, small))
 
 -- held down the bounds are the same
-pub same_lows : (upper : Option ℕ) (i : ℕ) (cols : List MpsCol) → first_from (λ _ c. has_large_bound upper c) i cols ≡ None → map (λ (c : MpsCol). held (low c.low)) cols ≡ map (λ (c : MpsCol). low c.low) cols
+pub same_lows : (upper : Option ℕ) (i : ℕ) (cols : List MpsCol) → first_from (λ _ c. has_large_bound upper c) i cols ≡ None → map (λ (c : MpsCol). held_number (low c.low)) cols ≡ map (λ (c : MpsCol). low c.low) cols
 same_lows upper i [] h = refl
 same_lows upper i (c ∷ cs) h =
     let parts = none_cons (λ _ c. has_large_bound upper c) i c cs h in
     let here = held_bound (low c.low) (or_parts (is_large (low c.low)) (is_large (high upper c.high)) parts.0).0 in
     rw (here, same_lows upper (i + 1) cs parts.1) refl
 
-pub same_highs : (upper : Option ℕ) (i : ℕ) (cols : List MpsCol) → first_from (λ _ c. has_large_bound upper c) i cols ≡ None → map (λ (c : MpsCol). held (high upper c.high)) cols ≡ map (λ (c : MpsCol). high upper c.high) cols
+pub same_highs : (upper : Option ℕ) (i : ℕ) (cols : List MpsCol) → first_from (λ _ c. has_large_bound upper c) i cols ≡ None → map (λ (c : MpsCol). held_number (high upper c.high)) cols ≡ map (λ (c : MpsCol). high upper c.high) cols
 same_highs upper i [] h = refl
 same_highs upper i (c ∷ cs) h =
     let parts = none_cons (λ _ c. has_large_bound upper c) i c cs h in

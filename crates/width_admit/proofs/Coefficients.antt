@@ -9,7 +9,7 @@ use Rattle.ip_core.specs.Numbers.{int_at}
 use Rattle.ip_core.specs.declared.row.Term.{Term}
 use Rattle.width_admit.specs.declared.gather.Coefficient.{Coefficient}
 use Rattle.width_admit.specs.Exact.{units, is_whole, are_whole}
-use Rattle.width_admit.specs.Held.{IsFinest, held, held_terms, held_term, held_whole, turned_terms}
+use Rattle.width_admit.specs.Held.{IsFinest, held_number, held_terms, held_term, held_whole, terms_under_sign}
 use Rattle.width_admit.specs.ExactRows.{negated_term}
 use Rattle.width_admit.specs.Gathered.{exact, exact_term}
 use Rattle.width_admit.proofs.Decimals.{finest_both}
@@ -72,10 +72,10 @@ reach_small box j limits =
     omega (arith, low, high)
 
 -- a part of a width is at most 2^83
-pub part_small : (z : ℤ) (r : ℕ) → r ≤ 2 ^ 31 → unsigned_abs (held z) * r ≤ 2 ^ 83
+pub part_small : (z : ℤ) (r : ℕ) → r ≤ 2 ^ 31 → unsigned_abs (held_number z) * r ≤ 2 ^ 83
 part_small z r near =
-    let size : unsigned_abs (held z) ≤ 2 ^ 52 = rw (held_size z) (omega arith) in
-    let first : unsigned_abs (held z) * r ≤ 2 ^ 52 * r = mul-le-mul_right r size in
+    let size : unsigned_abs (held_number z) ≤ 2 ^ 52 = rw (held_size z) (omega arith) in
+    let first : unsigned_abs (held_number z) * r ≤ 2 ^ 52 * r = mul-le-mul_right r size in
     omega (arith, first, near)
 
 -- where coefficients belong to known columns, one of them does
@@ -86,21 +86,21 @@ column_known n terms i t within known =
     let read : get_or (exact terms) i (exact_term t) ≡ exact_term (get_or terms i t) = get_or-map exact_term terms i t (exact_term t) within in
     subst (λ (x : Term). x.col < n) read here.known
 
-turned_terms-append : (negate : Bool) (xs ys : List Term) → turned_terms negate (xs ++ ys) ≡ turned_terms negate xs ++ turned_terms negate ys
+turned_terms-append : (negate : Bool) (xs ys : List Term) → terms_under_sign negate (xs ++ ys) ≡ terms_under_sign negate xs ++ terms_under_sign negate ys
 turned_terms-append true [] ys = refl
 turned_terms-append true (x ∷ xs) ys = ap (λ rest. negated_term x ∷ rest) (turned_terms-append true xs ys)
 turned_terms-append false xs ys = refl
 
-turned_one : (negate : Bool) (col : ℕ) (z : ℤ) → turned_terms negate (record { col = col; coef = z } ∷ []) ≡ record { col = col; coef = if negate then neg_ℤ z else z } ∷ []
+turned_one : (negate : Bool) (col : ℕ) (z : ℤ) → terms_under_sign negate (record { col = col; coef = z } ∷ []) ≡ record { col = col; coef = if negate then neg_ℤ z else z } ∷ []
 turned_one true col z = refl
 turned_one false col z = refl
 
 -- one more term of those that are held down, or negated
 pub turned_more : (negate : Bool) (k : ℕ) (terms : List Coefficient) (i : ℕ) (t : Coefficient) → i < length terms → t ≡ get_or terms i t
-    → turned_terms negate (held_terms k (exact (take (i + 1) terms))) ≡ turned_terms negate (held_terms k (exact (take i terms))) ++ record { col = t.col; coef = if negate then neg_ℤ (held_whole k t.value) else held_whole k t.value } ∷ []
+    → terms_under_sign negate (held_terms k (exact (take (i + 1) terms))) ≡ terms_under_sign negate (held_terms k (exact (take i terms))) ++ record { col = t.col; coef = if negate then neg_ℤ (held_whole k t.value) else held_whole k t.value } ∷ []
 turned_more negate k terms i t within read =
-    ap (λ ts. turned_terms negate (held_terms k (exact ts))) (take_more terms i t within ∙ ap (λ x. take i terms ++ x ∷ []) (sym read))
-    ∙ ap (λ ts. turned_terms negate (held_terms k ts)) (exact-append (take i terms) (t ∷ []))
-    ∙ ap (turned_terms negate) (held_terms-append k (exact (take i terms)) (exact (t ∷ [])))
+    ap (λ ts. terms_under_sign negate (held_terms k (exact ts))) (take_more terms i t within ∙ ap (λ x. take i terms ++ x ∷ []) (sym read))
+    ∙ ap (λ ts. terms_under_sign negate (held_terms k ts)) (exact-append (take i terms) (t ∷ []))
+    ∙ ap (terms_under_sign negate) (held_terms-append k (exact (take i terms)) (exact (t ∷ [])))
     ∙ turned_terms-append negate (held_terms k (exact (take i terms))) (held_terms k (exact (t ∷ [])))
-    ∙ ap (λ ts. turned_terms negate (held_terms k (exact (take i terms))) ++ ts) (turned_one negate t.col (held_whole k t.value))
+    ∙ ap (λ ts. terms_under_sign negate (held_terms k (exact (take i terms))) ++ ts) (turned_one negate t.col (held_whole k t.value))

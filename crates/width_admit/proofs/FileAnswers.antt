@@ -3,7 +3,7 @@ use Rattle.std.proofs.lemmas.Int.{ints}
 use Rattle.ip_core.specs.Truth.{value_at}
 use Rattle.ip_core.specs.declared.model.ModelParts.{ModelParts}
 use Rattle.mps_model.specs.declared.model.MpsModel.{MpsModel}
-use Rattle.width_admit.specs.Admission.{Admits, minimised}
+use Rattle.width_admit.specs.Admission.{Admits, minimised_number}
 use Rattle.width_admit.specs.FilePoints.{IsNoWorse, file_objective}
 use Rattle.width_admit.specs.Laws.{AdmissionKeepsAnswers}
 use Rattle.width_admit.proofs.Decimals.{ten_pow_pos}
@@ -13,15 +13,15 @@ use Rattle.width_admit.proofs.FileValues.{admission_keeps_values}
 
 -- the answers to a file are those to the admitted model
 
-no_worse : (maximise : Bool) (a b : ℤ) → IsNoWorse maximise a b ↔ (minimised maximise a ≤ℤ minimised maximise b)
+no_worse : (maximise : Bool) (a b : ℤ) → IsNoWorse maximise a b ↔ (minimised_number maximise a ≤ℤ minimised_number maximise b)
 no_worse true a b = (λ h. omega (arith, ints, h), λ h. omega (arith, ints, h))
 no_worse false a b = (λ h. h, λ h. h)
 
 -- two objectives are in order exactly where the values are
 in_order : (m : MpsModel) (upper : Option ℕ) (parts : ModelParts) → Admits m upper parts → (x y : List ℤ) → IsNoWorse m.maximise (file_objective m x) (file_objective m y) ↔ (value_at parts x ≤ℤ value_at parts y)
 in_order m upper parts admits x y =
-    let a = minimised m.maximise (file_objective m x) in
-    let b = minimised m.maximise (file_objective m y) in
+    let a = minimised_number m.maximise (file_objective m x) in
+    let b = minimised_number m.maximise (file_objective m y) in
     let v = value_at parts x +ℤ parts.constant in
     let w = value_at parts y +ℤ parts.constant in
     let q = 10 ^ parts.decimals in

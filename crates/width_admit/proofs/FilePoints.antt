@@ -6,7 +6,7 @@ use Rattle.ip_core.specs.declared.model.ModelParts.{ModelParts}
 use Rattle.mps_model.specs.declared.model.MpsCol.{MpsCol}
 use Rattle.mps_model.specs.declared.model.MpsModel.{MpsModel}
 use Rattle.mps_model.specs.MpsModels.{IsMpsModel}
-use Rattle.width_admit.specs.Admission.{Admits, admitted}
+use Rattle.width_admit.specs.Admission.{Admits, admitted_model}
 use Rattle.width_admit.specs.FilePoints.{AreFileRowsMet, IsSolution}
 use Rattle.width_admit.specs.Laws.{AdmissionKeepsRows, AdmissionKeepsPoints}
 use Rattle.width_admit.proofs.Models.{unbounded_none}
@@ -19,7 +19,7 @@ pub admission_keeps_rows : AdmissionKeepsRows
 admission_keeps_rows m upper parts admits x =
     subst (λ (p : ModelParts). AreFileRowsMet m.cols x 0 m.rows ↔ AreMet x p.rows) (sym admits.whole) (file_rows m.cols x 0 m.rows)
 
-of_admitted : (m : MpsModel) (upper : Option ℕ) (x : List ℤ) → IsMpsModel m → Admits m upper (admitted m upper) → IsSolution m upper x ↔ IsFeasible (admitted m upper) x
+of_admitted : (m : MpsModel) (upper : Option ℕ) (x : List ℤ) → IsMpsModel m → Admits m upper (admitted_model m upper) → IsSolution m upper x ↔ IsFeasible (admitted_model m upper) x
 of_admitted m upper x valid admits =
     let names = length-map m.cols (λ (c : MpsCol). c.name) in
     let bounded = unbounded_none m upper admits.unrefused in
@@ -38,5 +38,5 @@ of_admitted m upper x valid admits =
 
 pub admission_keeps_points : AdmissionKeepsPoints
 admission_keeps_points m upper parts valid admits x =
-    let whole : Admits m upper (admitted m upper) = subst (Admits m upper) admits.whole admits in
+    let whole : Admits m upper (admitted_model m upper) = subst (Admits m upper) admits.whole admits in
     subst (λ (p : ModelParts). IsSolution m upper x ↔ IsFeasible p x) (sym admits.whole) (of_admitted m upper x valid whole)

@@ -17,7 +17,7 @@ use Rattle.width_admit.specs.declared.sides.RowSides.{RowSides}
 use Rattle.width_admit.specs.Exact.{units, whole, is_whole, are_whole}
 use Rattle.width_admit.specs.Sides.{sides, exact_sides}
 use Rattle.width_admit.specs.ExactRows.{row_exponent, whole_terms, negated_terms, whole_side, rows_of, whole_rows, admitted_rows, is_too_wide}
-use Rattle.width_admit.specs.Held.{held, held_whole, held_term, held_terms, held_sides, held_rows, is_wide_side, has_wide_side}
+use Rattle.width_admit.specs.Held.{held_number, held_whole, held_term, held_terms, held_sides, held_rows, is_wide_side, has_wide_side}
 use Rattle.width_admit.proofs.Quotients.{IsTimes, quotient_of_sum, quotient_of_negated, times_of_negated}
 use Rattle.width_admit.proofs.Decimals.{ten_pow_pos, times_of_whole, whole_of_times}
 use Rattle.width_admit.proofs.SideNumbers.{listed, range_is_whole, side_is_whole}
@@ -29,7 +29,7 @@ use Rattle.width_admit.proofs.HeldNumbers.{held_size, held_is}
 
 -- terms in whole numbers, held down
 abbrev hold : Term → Term
-hold t = record { col = t.col; coef = held t.coef }
+hold t = record { col = t.col; coef = held_number t.coef }
 
 held_is_hold : (k : ℕ) (terms : List Term) → held_terms k terms ≡ map hold (whole_terms k terms)
 held_is_hold k [] = refl
@@ -43,10 +43,10 @@ size_within z r rest some fits =
     let least : unsigned_abs z * 1 ≤ unsigned_abs z * r = mul-le-mul_left (unsigned_abs z) some in
     omega (arith, least, fits)
 
-pub held_of_held : (z : ℤ) → unsigned_abs (held z) ≤ MAX_WIDTH → held z ≡ z
+pub held_of_held : (z : ℤ) → unsigned_abs (held_number z) ≤ MAX_WIDTH → held_number z ≡ z
 held_of_held z small = let size = held_size z in held_is z (omega (arith, size, small))
 
-pub held_of_small : (z : ℤ) → unsigned_abs z ≤ 2 ^ 51 → held z ≡ z
+pub held_of_small : (z : ℤ) → unsigned_abs z ≤ 2 ^ 51 → held_number z ≡ z
 held_of_small z small = held_is z (omega (arith, small))
 
 -- narrow terms stay as they are
@@ -64,7 +64,7 @@ hold_narrow_held : (box : Sides) (ts : List Term) → sum_by (term_width box) (m
 hold_narrow_held box [] narrow = refl
 hold_narrow_held box (t ∷ ts) narrow =
     let parts : term_width box (hold t) + sum_by (term_width box) (map hold ts) ≤ MAX_WIDTH = rw (sum_by-cons (term_width box) (hold t) (map hold ts)) at narrow in
-    let size = size_within (held t.coef) (reach box t.col) (sum_by (term_width box) (map hold ts)) (reach_at_least_one box t.col) parts in
+    let size = size_within (held_number t.coef) (reach box t.col) (sum_by (term_width box) (map hold ts)) (reach_at_least_one box t.col) parts in
     let here : hold t ≡ t = ap (λ z. record { col = t.col; coef = z }) (held_of_held t.coef size) in
     let rest = hold_narrow_held box ts (omega (arith, parts)) in
     rw (here, rest) refl
@@ -110,11 +110,11 @@ narrow_is_small width Equal b None narrow = small_alone width b (narrow_pair wid
 narrow_is_small width Equal b (Some (pos r)) narrow = let both = narrow_pair width b (b +ℤ pos r) narrow in small_sum width b (pos r) both.0 both.1
 narrow_is_small width Equal b (Some (negsuc r)) narrow = let both = narrow_pair width (b +ℤ negsuc r) b narrow in small_sum width b (negsuc r) both.1 both.0
 
-same_range : (range : Option ℤ) → IsSmallRange range → option_map held range ≡ range
+same_range : (range : Option ℤ) → IsSmallRange range → option_map held_number range ≡ range
 same_range None small = refl
 same_range (Some r) small = ap Some (held_of_small r small)
 
-held_range_small : (range : Option ℤ) → IsSmallRange (option_map held range) → option_map held range ≡ range
+held_range_small : (range : Option ℤ) → IsSmallRange (option_map held_number range) → option_map held_number range ≡ range
 held_range_small None small = refl
 held_range_small (Some r) small = let size = held_size r in ap Some (held_is r (omega (arith, size, small)))
 
@@ -122,7 +122,7 @@ held_range_small (Some r) small = let size = held_size r in ap Some (held_is r (
 
 record IsSame (kind : RowKind) (ts : List Term) (b : ℤ) (range : Option ℤ) : Type 0 where
   pub terms : map hold ts ≡ ts
-  pub sides : sides kind (held b) (option_map held range) ≡ sides kind b range
+  pub sides : sides kind (held_number b) (option_map held_number range) ≡ sides kind b range
 
 same_of_exact : (box : Sides) (kind : RowKind) (ts : List Term) (b : ℤ) (range : Option ℤ) → has_wide_side (sum_by (term_width box) ts) (sides kind b range) ≡ false → IsSame kind ts b range
 same_of_exact box kind ts b range narrow =
@@ -130,13 +130,13 @@ same_of_exact box kind ts b range narrow =
     let side = small.side in
     record { terms = hold_narrow box ts small.few; sides = rw (held_of_small b (omega (arith, side)), same_range range small.near) refl }
 
-same_of_held : (box : Sides) (kind : RowKind) (ts : List Term) (b : ℤ) (range : Option ℤ) → has_wide_side (sum_by (term_width box) (map hold ts)) (sides kind (held b) (option_map held range)) ≡ false → IsSame kind ts b range
+same_of_held : (box : Sides) (kind : RowKind) (ts : List Term) (b : ℤ) (range : Option ℤ) → has_wide_side (sum_by (term_width box) (map hold ts)) (sides kind (held_number b) (option_map held_number range)) ≡ false → IsSame kind ts b range
 same_of_held box kind ts b range narrow =
-    let small = narrow_is_small (sum_by (term_width box) (map hold ts)) kind (held b) (option_map held range) narrow in
+    let small = narrow_is_small (sum_by (term_width box) (map hold ts)) kind (held_number b) (option_map held_number range) narrow in
     record { terms = hold_narrow_held box ts small.few; sides = rw (held_of_held b small.side, held_range_small range small.near) refl }
 
 same_width : (box : Sides) (kind : RowKind) (ts : List Term) (b : ℤ) (range : Option ℤ) → IsSame kind ts b range
-    → has_wide_side (sum_by (term_width box) (map hold ts)) (sides kind (held b) (option_map held range)) ≡ has_wide_side (sum_by (term_width box) ts) (sides kind b range)
+    → has_wide_side (sum_by (term_width box) (map hold ts)) (sides kind (held_number b) (option_map held_number range)) ≡ has_wide_side (sum_by (term_width box) ts) (sides kind b range)
 same_width box kind ts b range same = rw (same.terms, same.sides) refl
 
 pub by_tests : (a b : Bool) → (a ≡ false → b ≡ false) → (b ≡ false → a ≡ false) → a ≡ b
@@ -147,7 +147,7 @@ by_tests false false f g = refl
 
 -- held down a row is too wide exactly where it is
 wide_as_held : (box : Sides) (kind : RowKind) (ts : List Term) (b : ℤ) (range : Option ℤ)
-    → has_wide_side (sum_by (term_width box) ts) (sides kind b range) ≡ has_wide_side (sum_by (term_width box) (map hold ts)) (sides kind (held b) (option_map held range))
+    → has_wide_side (sum_by (term_width box) ts) (sides kind b range) ≡ has_wide_side (sum_by (term_width box) (map hold ts)) (sides kind (held_number b) (option_map held_number range))
 wide_as_held box kind ts b range = by_tests _ _
     (λ narrow. same_width box kind ts b range (same_of_exact box kind ts b range narrow) ∙ narrow)
     (λ narrow. sym (same_width box kind ts b range (same_of_held box kind ts b range narrow)) ∙ narrow)
@@ -224,11 +224,11 @@ whole_sides_are k kind b (Some r) h = whole_range_sides k kind b r (side_is_whol
 
 -- ---- a row of a file
 
-by_range : (k : ℕ) (range : Option Number) → option_map (held_whole k) range ≡ option_map held (option_map (whole k) (option_map units range))
+by_range : (k : ℕ) (range : Option Number) → option_map (held_whole k) range ≡ option_map held_number (option_map (whole k) (option_map units range))
 by_range k None = refl
 by_range k (Some r) = refl
 
-range_held : (k : ℕ) (row : MpsRow) → option_map (held_whole k) row.range ≡ option_map held (option_map (whole k) (option_map units row.range))
+range_held : (k : ℕ) (row : MpsRow) → option_map (held_whole k) row.range ≡ option_map held_number (option_map (whole k) (option_map units row.range))
 range_held k row = by_range k row.range
 
 -- the width of a row as it is computed

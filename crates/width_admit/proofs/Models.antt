@@ -9,12 +9,12 @@ use Rattle.ip_core.specs.declared.limits.TheConstants.{MAX_COLUMNS, MAX_ROWS, MA
 use Rattle.mps_model.specs.MpsModels.{IsMpsModel, IsMpsCol}
 use Rattle.mps_model.specs.declared.model.MpsModel.{MpsModel}
 use Rattle.mps_model.specs.declared.model.MpsCol.{MpsCol}
-use Rattle.width_admit.specs.declared.error.AdmitError.{AdmitError}
-use Rattle.width_admit.specs.declared.error.AdmitError.TheVariants.{Continuous, NegativeUpper, Unbounded, BoundTooLarge, TooManyColumns, TooManyRows, TooManyTerms, RowTooFine, RowTooWide, ObjectiveTooWide}
+use Rattle.width_admit.specs.declared.refusal.Refusal.{Refusal}
+use Rattle.width_admit.specs.declared.refusal.Refusal.TheVariants.{Continuous, NegativeUpper, Unbounded, BoundTooLarge, TooManyColumns, TooManyRows, TooManyTerms, RowTooFine, RowTooWide, ObjectiveTooWide}
 use Rattle.width_admit.specs.declared.gather.Coefficient.{Coefficient}
 use Rattle.width_admit.specs.Columns.{root, low, is_continuous, has_negative_upper, is_unbounded, has_large_bound}
 use Rattle.width_admit.specs.ExactRows.{exact_terms, rows_from}
-use Rattle.width_admit.specs.Admission.{admitted, refusal, refused_if, column_refusal, count_refusal, width_refusal, first_column, first_wide, first_fine, has_many_columns, has_many_rows, has_many_terms, has_wide_objective}
+use Rattle.width_admit.specs.Admission.{admitted_model, refusal, refusal_if, column_refusal, count_refusal, width_refusal, first_column, first_too_wide, first_too_fine, has_many_columns, has_many_rows, has_many_terms, has_wide_objective}
 use Rattle.width_admit.specs.Gathered.{exact, exact_term, AreGathered, AreColumns, IsColumn}
 use Rattle.width_admit.specs.Held.{AreUsable}
 use Rattle.std.proofs.lemmas.List.Elements.{All-weaker}
@@ -32,7 +32,7 @@ none_map : {A B : Type 0} (f : A → B) (a : Option A) → option_map f a ≡ No
 none_map f None h = refl
 none_map f (Some x) h = absurd (true≢false (ap is_some h))
 
-none_if : (b : Bool) (e : AdmitError) → refused_if b e ≡ None → b ≡ false
+none_if : (b : Bool) (e : Refusal) → refusal_if b e ≡ None → b ≡ false
 none_if false e h = refl
 none_if true e h = absurd (true≢false (ap is_some h))
 
@@ -42,7 +42,7 @@ pub record IsUnrefused (m : MpsModel) (upper : Option ℕ) : Type 0 where
   pub columns : has_many_columns m ≡ false
   pub rows : has_many_rows m ≡ false
   pub terms : has_many_terms m ≡ false
-  pub wide : first_wide m upper ≡ None
+  pub wide : first_too_wide m upper ≡ None
   pub objective : has_wide_objective m upper ≡ false
 
 pub large_none : (m : MpsModel) (upper : Option ℕ) → column_refusal m upper ≡ None → first_column (has_large_bound upper) m ≡ None
@@ -65,16 +65,16 @@ pub unrefused : (m : MpsModel) (upper : Option ℕ) → refusal m upper ≡ None
 unrefused m upper h =
     let parts = none_or (column_refusal m upper) _ h in
     let later = none_or (count_refusal m) (width_refusal m upper) parts.1 in
-    let cols = none_or (refused_if (has_many_columns m) TooManyColumns) _ later.0 in
-    let rows = none_or (refused_if (has_many_rows m) TooManyRows) (refused_if (has_many_terms m) TooManyTerms) cols.1 in
-    let fine = none_or (option_map RowTooFine (first_fine m)) _ later.1 in
-    let wide = none_or (option_map RowTooWide (first_wide m upper)) (refused_if (has_wide_objective m upper) ObjectiveTooWide) fine.1 in
+    let cols = none_or (refusal_if (has_many_columns m) TooManyColumns) _ later.0 in
+    let rows = none_or (refusal_if (has_many_rows m) TooManyRows) (refusal_if (has_many_terms m) TooManyTerms) cols.1 in
+    let fine = none_or (option_map RowTooFine (first_too_fine m)) _ later.1 in
+    let wide = none_or (option_map RowTooWide (first_too_wide m upper)) (refusal_if (has_wide_objective m upper) ObjectiveTooWide) fine.1 in
     record {
       bounds = large_none m upper parts.0;
       columns = none_if (has_many_columns m) TooManyColumns cols.0;
       rows = none_if (has_many_rows m) TooManyRows rows.0;
       terms = none_if (has_many_terms m) TooManyTerms rows.1;
-      wide = none_map RowTooWide (first_wide m upper) wide.0;
+      wide = none_map RowTooWide (first_too_wide m upper) wide.0;
       objective = none_if (has_wide_objective m upper) ObjectiveTooWide wide.1;
     }
 
@@ -82,17 +82,17 @@ unrefused m upper h =
 pub all_none : (m : MpsModel) (upper : Option ℕ) → column_refusal m upper ≡ None → count_refusal m ≡ None → width_refusal m upper ≡ None → refusal m upper ≡ None
 all_none m upper x y z = rw (x, y, z) refl
 
-pub at_column : (m : MpsModel) (upper : Option ℕ) (e : AdmitError) → column_refusal m upper ≡ Some e → refusal m upper ≡ Some e
+pub at_column : (m : MpsModel) (upper : Option ℕ) (e : Refusal) → column_refusal m upper ≡ Some e → refusal m upper ≡ Some e
 at_column m upper e x = rw x refl
 
-pub at_count : (m : MpsModel) (upper : Option ℕ) (e : AdmitError) → column_refusal m upper ≡ None → count_refusal m ≡ Some e → refusal m upper ≡ Some e
+pub at_count : (m : MpsModel) (upper : Option ℕ) (e : Refusal) → column_refusal m upper ≡ None → count_refusal m ≡ Some e → refusal m upper ≡ Some e
 at_count m upper e x y = rw (x, y) refl
 
-pub at_width : (m : MpsModel) (upper : Option ℕ) (e : AdmitError) → column_refusal m upper ≡ None → count_refusal m ≡ None → width_refusal m upper ≡ Some e → refusal m upper ≡ Some e
+pub at_width : (m : MpsModel) (upper : Option ℕ) (e : Refusal) → column_refusal m upper ≡ None → count_refusal m ≡ None → width_refusal m upper ≡ Some e → refusal m upper ≡ Some e
 at_width m upper e x y z = rw (x, y, z) refl
 
 -- the parts of what nothing refuses make a model
-pub admitted_is_model : (m : MpsModel) (upper : Option ℕ) → AreColumns (length m.rows) m.cols → refusal m upper ≡ None → IsModel (admitted m upper)
+pub admitted_is_model : (m : MpsModel) (upper : Option ℕ) → AreColumns (length m.rows) m.cols → refusal m upper ≡ None → IsModel (admitted_model m upper)
 admitted_is_model m upper valid h =
     let all = unrefused m upper h in
     let names = length-map m.cols (λ (c : MpsCol). c.name) in
@@ -102,6 +102,7 @@ admitted_is_model m upper valid h =
         columns = let few = ltb-false MAX_COLUMNS (length m.cols) all.columns in omega (arith, few, names);
         costs = length-map m.cols _ ∙ sym names;
         box = length-map m.cols _ ∙ sym names;
+        highs = length-map m.cols _ ∙ sym names;
         limits = root_limits upper m.cols all.bounds;
       };
       few = record {

@@ -1,4 +1,4 @@
-use Rattle.std.proofs.Common.{◌≡◌, ◌≢◌, ◌∙◌, ℕ, suc, ◌+◌, ◌*◌, ◌<◌, ◌≤◌, Bool, true, false, List, [], ◌∷◌, ℤ, length, get_or, slice_index_or, sum_by, Option, Some, None, option_map, refl, sym, ap, subst, arith}
+use Rattle.std.proofs.Common.{◌≡◌, ◌∙◌, ℕ, suc, ◌+◌, ◌*◌, ◌<◌, ◌≤◌, Bool, true, false, List, [], ◌∷◌, ℤ, length, get_or, slice_index_or, sum_by, Option, Some, None, option_map, refl, sym, ap, subst, arith}
 use Rattle.std.specs.Option.{option_or}
 use Rattle.std.proofs.lemmas.List.{length-append, length-map, get_or_default}
 use Rattle.std.proofs.lemmas.List.Sums.{sum_by-cons, sum_by-append}
@@ -8,13 +8,15 @@ use Rattle.ip_core.specs.declared.row.Term.{Term}
 use Rattle.mps_model.specs.declared.model.MpsCol.{MpsCol}
 use Rattle.mps_model.specs.declared.model.MpsRow.{MpsRow}
 use Rattle.width_admit.specs.declared.error.AdmitError.{AdmitError}
-use Rattle.width_admit.specs.declared.error.AdmitError.TheVariants.{Continuous, NegativeUpper, Unbounded, BoundTooLarge, TooManyColumns, TooManyRows, TooManyTerms, RowTooFine, RowTooWide, ObjectiveTooWide, Memory}
+use Rattle.width_admit.specs.declared.refusal.Refusal.{Refusal}
+use Rattle.width_admit.specs.declared.refusal.Refusal.TheVariants.{Continuous, NegativeUpper, Unbounded, BoundTooLarge, TooManyColumns, TooManyRows, TooManyTerms}
 use Rattle.width_admit.specs.declared.gather.Coefficient.{Coefficient}
 use Rattle.width_admit.specs.Sides.{exact_sides, side_count}
 use Rattle.width_admit.specs.ExactRows.{ExactRow, exact_terms, exact_row, row_exponent, whole_terms, negated_term, whole_side, rows_of, admitted_rows, rows_from}
 use Rattle.mps_model.specs.declared.model.MpsModel.{MpsModel}
 use Rattle.width_admit.specs.KindNumbers.{kind_of, index_of}
-use Rattle.width_admit.specs.Admission.{first_from, refused_if, refusal, IsCause, IsNotAdmitted}
+use Rattle.width_admit.specs.Refusals.{refusal_of}
+use Rattle.width_admit.specs.Admission.{first_from, refusal_if, refusal, IsCause, IsNotAdmitted}
 use Rattle.width_admit.specs.Gathered.{exact, AreGathered}
 use Rattle.width_admit.specs.Held.{terms_from}
 use Rattle.width_admit.proofs.SideNumbers.{listed}
@@ -22,10 +24,10 @@ use Rattle.width_admit.proofs.SideNumbers.{listed}
 -- the first reason that applies is the refusal
 
 -- what a search over the columns found
-pub seen : (test : MpsCol → Bool) (cols all : List MpsCol) (r o : Option ℕ) → cols ≡ all → r ≡ first_from (λ _ c. test c) 0 cols → r ≡ o → first_from (λ _ c. test c) 0 all ≡ o
-seen test cols all r o same found is = ap (first_from (λ _ c. test c) 0) (sym same) ∙ sym found ∙ is
+pub first_is : (test : MpsCol → Bool) (cols all : List MpsCol) (r o : Option ℕ) → cols ≡ all → r ≡ first_from (λ _ c. test c) 0 cols → r ≡ o → first_from (λ _ c. test c) 0 all ≡ o
+first_is test cols all r o same found is = ap (first_from (λ _ c. test c) 0) (sym same) ∙ sym found ∙ is
 
-abbrev pub chain : Option ℕ → Option ℕ → Option ℕ → Option ℕ → Option AdmitError
+abbrev pub chain : Option ℕ → Option ℕ → Option ℕ → Option ℕ → Option Refusal
 chain a b d e = option_or (option_map Continuous a) (option_or (option_map NegativeUpper b) (option_or (option_map Unbounded d) (option_map BoundTooLarge e)))
 
 pub second : (a b d e : Option ℕ) (col : ℕ) → a ≡ None → b ≡ Some col → Some (NegativeUpper col) ≡ chain a b d e
@@ -95,8 +97,8 @@ term_count_is n cols lists i (row ∷ rows) gathered few =
     let long : length (exact_terms i 0 cols) ≡ length (slice_index_or lists i []) = ap length (sym (gathered.each i (omega (arith, few)))) ∙ length-map (slice_index_or lists i []) _ in
     parts ∙ rw (first, rest, long) refl
 
-abbrev pub count_chain : Bool → Bool → Bool → Option AdmitError
-count_chain a b d = option_or (refused_if a TooManyColumns) (option_or (refused_if b TooManyRows) (refused_if d TooManyTerms))
+abbrev pub count_chain : Bool → Bool → Bool → Option Refusal
+count_chain a b d = option_or (refusal_if a TooManyColumns) (option_or (refusal_if b TooManyRows) (refusal_if d TooManyTerms))
 
 pub many_rows : (a b d : Bool) → a ≡ false → b ≡ true → Some TooManyRows ≡ count_chain a b d
 many_rows a b d x y = rw (x, y) refl
@@ -123,23 +125,6 @@ counted_terms cols lists rows all r gathered same counted = counted ∙ ap (term
 pub read_list : (lists : List (List Coefficient)) (at : ℕ) (x slice : List Coefficient) → at < length lists → slice ≡ x → x ≡ get_or lists at x → slice ≡ slice_index_or lists at []
 read_list lists at x slice within same read = same ∙ read ∙ get_or_default lists at x [] within
 
--- a cause other than want of memory is the refusal that its number and index name
-pub not_admitted : (m : MpsModel) (upper : Option ℕ) (e : AdmitError) → refusal m upper ≡ Some e → IsNotAdmitted m upper (kind_of e) (index_of e)
-not_admitted m upper e refused = record { reason = e; refused = refused; numbered = refl; placed = refl }
-
-pub cause_is_refusal : (m : MpsModel) (upper : Option ℕ) (e : AdmitError) → e ≢ Memory → IsCause m upper e → refusal m upper ≡ Some e
-cause_is_refusal m upper (Continuous col) other cause = cause
-cause_is_refusal m upper (NegativeUpper col) other cause = cause
-cause_is_refusal m upper (Unbounded col) other cause = cause
-cause_is_refusal m upper (BoundTooLarge col) other cause = cause
-cause_is_refusal m upper TooManyColumns other cause = cause
-cause_is_refusal m upper TooManyRows other cause = cause
-cause_is_refusal m upper TooManyTerms other cause = cause
-cause_is_refusal m upper (RowTooFine row) other cause = cause
-cause_is_refusal m upper (RowTooWide row) other cause = cause
-cause_is_refusal m upper ObjectiveTooWide other cause = cause
-cause_is_refusal m upper Memory other cause = absurd (other refl)
-
--- so each cause other than want of memory is a refusal under its number and index
-pub cause_not_admitted : (m : MpsModel) (upper : Option ℕ) (e : AdmitError) → e ≢ Memory → IsCause m upper e → IsNotAdmitted m upper (kind_of e) (index_of e)
-cause_not_admitted m upper e other cause = not_admitted m upper e (cause_is_refusal m upper e other cause)
+-- the reason that an error tells of is the refusal that its number and index name
+pub cause_not_admitted : (m : MpsModel) (upper : Option ℕ) (error : AdmitError) (reason : Refusal) → IsCause m upper error → refusal_of error ≡ Some reason → IsNotAdmitted m upper (kind_of reason) (index_of reason)
+cause_not_admitted m upper error reason cause tells = record { reason = reason; refused = cause.refused reason tells; numbered = refl; placed = refl }

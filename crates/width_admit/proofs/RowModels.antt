@@ -17,7 +17,7 @@ use Rattle.mps_model.specs.declared.model.MpsRow.{MpsRow}
 use Rattle.width_admit.specs.Exact.{is_whole, whole, are_whole, least_from, exponent_of}
 use Rattle.width_admit.specs.ExactRows.{ExactRow, exact_row, row_exponent, negated_term, negated_terms, whole_term, whole_terms, whole_side, rows_of, admitted_rows, rows_from, is_too_wide}
 use Rattle.width_admit.specs.Admission.{first_from}
-use Rattle.width_admit.specs.Held.{held_rows, held_from}
+use Rattle.width_admit.specs.Held.{held_rows, held_rows_from}
 use Rattle.width_admit.proofs.Quotients.{quotient_times}
 use Rattle.width_admit.proofs.Decimals.{ten_pow_pos, times_of_whole}
 use Rattle.width_admit.proofs.SideNumbers.{listed}
@@ -137,7 +137,7 @@ rows_are_rows n rows i box cols (row ∷ rest) few valid narrow =
     All-append (IsRow n box) (admitted_rows (exact_row cols i row)) (rows_from cols (i + 1) rest) (row_is n rows i box cols row few valid parts.0) (rows_are_rows n rows (i + 1) box cols rest few valid parts.1)
 
 -- and held down they are the same
-pub held_rows_are : (i : ℕ) (box : Sides) (cols : List MpsCol) (file_rows : List MpsRow) → first_from (λ j row. is_too_wide box (exact_row cols j row)) i file_rows ≡ None → held_from cols i file_rows ≡ rows_from cols i file_rows
+pub held_rows_are : (i : ℕ) (box : Sides) (cols : List MpsCol) (file_rows : List MpsRow) → first_from (λ j row. is_too_wide box (exact_row cols j row)) i file_rows ≡ None → held_rows_from cols i file_rows ≡ rows_from cols i file_rows
 held_rows_are i box cols [] narrow = refl
 held_rows_are i box cols (row ∷ rest) narrow =
     let parts = none_cons (λ j r. is_too_wide box (exact_row cols j r)) i row rest narrow in

@@ -7,10 +7,12 @@ use Rattle.ip_core.specs.declared.limits.TheConstants.{MAX_COLUMNS, MAX_ROWS, MA
 use Rattle.mps_model.specs.declared.model.MpsModel.{MpsModel}
 use Rattle.mps_model.specs.declared.model.MpsCol.{MpsCol}
 use Rattle.width_admit.specs.declared.error.AdmitError.{AdmitError}
-use Rattle.width_admit.specs.declared.error.AdmitError.TheVariants.{Continuous, NegativeUpper, Unbounded, BoundTooLarge, TooManyColumns, TooManyRows, TooManyTerms, RowTooFine, RowTooWide, ObjectiveTooWide, Memory}
+use Rattle.width_admit.specs.declared.refusal.Refusal.{Refusal}
+use Rattle.width_admit.specs.declared.refusal.Refusal.TheVariants.{Continuous, NegativeUpper, Unbounded, BoundTooLarge, TooManyColumns, TooManyRows, TooManyTerms, RowTooFine, RowTooWide, ObjectiveTooWide}
 use Rattle.width_admit.specs.Exact.{units, whole, exponent_of}
 use Rattle.width_admit.specs.Columns.{root, is_continuous, has_negative_upper, is_unbounded, has_large_bound}
 use Rattle.width_admit.specs.KindNumbers.{kind_of, index_of}
+use Rattle.width_admit.specs.Refusals.{refusal_of}
 use Rattle.width_admit.specs.ExactRows.{exact_row, rows_from, is_too_fine, is_too_wide}
 
 -- the costs of the columns in units
@@ -22,20 +24,21 @@ abbrev pub objective_exponent : MpsModel → ℕ
 objective_exponent m = exponent_of (exact_costs m.cols ++ units m.constant ∷ [])
 
 -- a number of the objective as it is minimised: negated where the file maximises
-abbrev pub minimised : Bool → ℤ → ℤ
-minimised maximise z = if maximise then neg_ℤ z else z
+abbrev pub minimised_number : Bool → ℤ → ℤ
+minimised_number maximise z = if maximise then neg_ℤ z else z
 
 -- the costs in whole numbers, as they are minimised
 abbrev pub whole_costs : MpsModel → List ℤ
-whole_costs m = map (λ c. minimised m.maximise (whole (objective_exponent m) (units c.cost))) m.cols
+whole_costs m =
+    map (λ c. minimised_number m.maximise (whole (objective_exponent m) (units c.cost))) m.cols
 
 -- the constant in whole numbers, as it is minimised
 abbrev pub whole_constant : MpsModel → ℤ
-whole_constant m = minimised m.maximise (whole (objective_exponent m) (units m.constant))
+whole_constant m = minimised_number m.maximise (whole (objective_exponent m) (units m.constant))
 
 -- the parts of the model in whole numbers
-abbrev pub admitted : MpsModel → Option ℕ → ModelParts
-admitted m upper = record {
+abbrev pub admitted_model : MpsModel → Option ℕ → ModelParts
+admitted_model m upper = record {
   name = m.name;
   cols = map (λ c. c.name) m.cols;
   costs = whole_costs m;
@@ -68,12 +71,13 @@ abbrev pub has_many_terms : MpsModel → Bool
 has_many_terms m = nat_lt MAX_TERMS (term_count (rows_from m.cols 0 m.rows))
 
 -- the first row that is too fine
-abbrev pub first_fine : MpsModel → Option ℕ
-first_fine m = first_from (λ i row. is_too_fine (exact_row m.cols i row)) 0 m.rows
+abbrev pub first_too_fine : MpsModel → Option ℕ
+first_too_fine m = first_from (λ i row. is_too_fine (exact_row m.cols i row)) 0 m.rows
 
 -- the first row that is too wide
-abbrev pub first_wide : MpsModel → Option ℕ → Option ℕ
-first_wide m upper = first_from (λ i row. is_too_wide (root upper m.cols) (exact_row m.cols i row)) 0 m.rows
+abbrev pub first_too_wide : MpsModel → Option ℕ → Option ℕ
+first_too_wide m upper =
+    first_from (λ i row. is_too_wide (root upper m.cols) (exact_row m.cols i row)) 0 m.rows
 
 -- the objective has more than 9 decimals, or its width is above 2^50
 abbrev pub has_wide_objective : MpsModel → Option ℕ → Bool
@@ -82,11 +86,11 @@ has_wide_objective m upper =
     || nat_lt MAX_WIDTH (objective_width (root upper m.cols) (whole_costs m) (whole_constant m))
 
 -- the refusal where a test passes
-abbrev pub refused_if : Bool → AdmitError → Option AdmitError
-refused_if test error = if test then Some error else None
+abbrev pub refusal_if : Bool → Refusal → Option Refusal
+refusal_if test reason = if test then Some reason else None
 
 -- the refusals of columns, least kind first, then the first column
-abbrev pub column_refusal : MpsModel → Option ℕ → Option AdmitError
+abbrev pub column_refusal : MpsModel → Option ℕ → Option Refusal
 column_refusal m upper =
     option_or (option_map Continuous (first_column is_continuous m))
     (option_or (option_map NegativeUpper (first_column has_negative_upper m))
@@ -94,45 +98,36 @@ column_refusal m upper =
     (option_map BoundTooLarge (first_column (has_large_bound upper) m))))
 
 -- those of numbers of columns, rows and terms
-abbrev pub count_refusal : MpsModel → Option AdmitError
+abbrev pub count_refusal : MpsModel → Option Refusal
 count_refusal m =
-    option_or (refused_if (has_many_columns m) TooManyColumns)
-    (option_or (refused_if (has_many_rows m) TooManyRows)
-    (refused_if (has_many_terms m) TooManyTerms))
+    option_or (refusal_if (has_many_columns m) TooManyColumns)
+    (option_or (refusal_if (has_many_rows m) TooManyRows)
+    (refusal_if (has_many_terms m) TooManyTerms))
 
 -- those of rows and of the objective
-abbrev pub width_refusal : MpsModel → Option ℕ → Option AdmitError
+abbrev pub width_refusal : MpsModel → Option ℕ → Option Refusal
 width_refusal m upper =
-    option_or (option_map RowTooFine (first_fine m))
-    (option_or (option_map RowTooWide (first_wide m upper))
-    (refused_if (has_wide_objective m upper) ObjectiveTooWide))
+    option_or (option_map RowTooFine (first_too_fine m))
+    (option_or (option_map RowTooWide (first_too_wide m upper))
+    (refusal_if (has_wide_objective m upper) ObjectiveTooWide))
 
 -- why a file's model isn't admitted, or None where it is: the least kind that applies, and its first column or row
-abbrev pub refusal : MpsModel → Option ℕ → Option AdmitError
-refusal m upper = option_or (column_refusal m upper) (option_or (count_refusal m) (width_refusal m upper))
+abbrev pub refusal : MpsModel → Option ℕ → Option Refusal
+refusal m upper =
+    option_or (column_refusal m upper) (option_or (count_refusal m) (width_refusal m upper))
 
 -- the file's model is admitted as this model
 pub record Admits (m : MpsModel) (upper : Option ℕ) (parts : ModelParts) : Type 0 where
   pub unrefused : refusal m upper ≡ None
-  pub whole : parts ≡ admitted m upper
+  pub whole : parts ≡ admitted_model m upper
 
 -- the file's model isn't admitted, for a reason of this number at this column or row
 pub record IsNotAdmitted (m : MpsModel) (upper : Option ℕ) (kind index : ℕ) : Type 0 where
-  pub reason : AdmitError
+  pub reason : Refusal
   pub refused : refusal m upper ≡ Some reason
   pub numbered : kind_of reason ≡ kind
   pub placed : index_of reason ≡ index
 
--- why a call gave no model: the refusal, or want of memory, which no clause ties to a cause
-abbrev pub IsCause : MpsModel → Option ℕ → AdmitError → Type 0
-IsCause m upper (Continuous col) = refusal m upper ≡ Some (Continuous col)
-IsCause m upper (NegativeUpper col) = refusal m upper ≡ Some (NegativeUpper col)
-IsCause m upper (Unbounded col) = refusal m upper ≡ Some (Unbounded col)
-IsCause m upper (BoundTooLarge col) = refusal m upper ≡ Some (BoundTooLarge col)
-IsCause m upper TooManyColumns = refusal m upper ≡ Some TooManyColumns
-IsCause m upper TooManyRows = refusal m upper ≡ Some TooManyRows
-IsCause m upper TooManyTerms = refusal m upper ≡ Some TooManyTerms
-IsCause m upper (RowTooFine row) = refusal m upper ≡ Some (RowTooFine row)
-IsCause m upper (RowTooWide row) = refusal m upper ≡ Some (RowTooWide row)
-IsCause m upper ObjectiveTooWide = refusal m upper ≡ Some ObjectiveTooWide
-IsCause m upper Memory = Unit {0}
+-- what a call's error tells of the reason is true; want of memory tells of none, and no clause ties it to a cause
+pub record IsCause (m : MpsModel) (upper : Option ℕ) (error : AdmitError) : Type 0 where
+  pub refused : (reason : Refusal) → refusal_of error ≡ Some reason → refusal m upper ≡ Some reason

@@ -31,16 +31,19 @@ root upper cols = record {
   highs = map (λ c. high upper c.high) cols;
 }
 
+-- the file says nothing of the bound
 abbrev pub is_unset : Limit → Bool
 is_unset Unset = true
 is_unset Free = false
 is_unset (At value) = false
 
+-- the file says that there is no bound
 abbrev pub is_free : Limit → Bool
 is_free Unset = false
 is_free Free = true
 is_free (At value) = false
 
+-- the bound is a negative number
 abbrev pub is_negative : Limit → Bool
 is_negative Unset = false
 is_negative Free = false
@@ -51,6 +54,7 @@ abbrev pub lacks_high : Option ℕ → Limit → Bool
 lacks_high None limit = is_unset limit || is_free limit
 lacks_high (Some high) limit = false
 
+-- a bound in whole numbers lies outside -2^31 to 2^31
 abbrev pub is_large : ℤ → Bool
 is_large bound = nat_lt MAX_BOUND (unsigned_abs bound)
 
@@ -66,6 +70,6 @@ has_negative_upper c = is_unset c.low && is_negative c.high
 abbrev pub is_unbounded : Option ℕ → MpsCol → Bool
 is_unbounded upper c = is_free c.low || lacks_high upper c.high
 
--- a bound in whole numbers lies outside -2^31 to 2^31
+-- one of its bounds does
 abbrev pub has_large_bound : Option ℕ → MpsCol → Bool
 has_large_bound upper c = is_large (low c.low) || is_large (high upper c.high)

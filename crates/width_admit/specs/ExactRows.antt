@@ -22,7 +22,9 @@ pub record ExactRow : Type 0 where
 abbrev pub entry_terms : ℕ → ℕ → List MpsEntry → List Term
 entry_terms i j [] = []
 entry_terms i j (e ∷ es) =
-    if e.row == i then record { col = j; coef = units e.value } ∷ entry_terms i j es else entry_terms i j es
+    if e.row == i
+    then record { col = j; coef = units e.value } ∷ entry_terms i j es
+    else entry_terms i j es
 
 -- the terms of row i in columns from j on, in rising column order
 abbrev pub exact_terms : ℕ → ℕ → List MpsCol → List Term
@@ -35,12 +37,15 @@ exact_row cols i row = record { terms = exact_terms i 0 cols; sides = exact_side
 
 -- the least exponent of a power of ten that makes the coefficients and sides of a row whole
 abbrev pub row_exponent : ExactRow → ℕ
-row_exponent r = exponent_of (map (λ t. t.coef) r.terms ++ option_to_list r.sides.lower ++ option_to_list r.sides.upper)
+row_exponent r =
+    exponent_of (map (λ t. t.coef) r.terms
+    ++ option_to_list r.sides.lower ++ option_to_list r.sides.upper)
 
 -- a term in whole numbers, once it is multiplied by 10^k
 abbrev pub whole_term : ℕ → Term → Term
 whole_term k t = record { col = t.col; coef = whole k t.coef }
 
+-- the same of terms
 abbrev pub whole_terms : ℕ → List Term → List Term
 whole_terms k terms = map (whole_term k) terms
 
@@ -48,6 +53,7 @@ whole_terms k terms = map (whole_term k) terms
 abbrev pub negated_term : Term → Term
 negated_term t = record { col = t.col; coef = neg_ℤ t.coef }
 
+-- the same of terms
 abbrev pub negated_terms : List Term → List Term
 negated_terms terms = map negated_term terms
 
@@ -61,6 +67,7 @@ abbrev pub upper_rows : List Term → Option ℤ → List Row
 upper_rows terms None = []
 upper_rows terms (Some b) = record { terms = negated_terms terms; least = neg_ℤ b } ∷ []
 
+-- a side in whole numbers, once it is multiplied by 10^k
 abbrev pub whole_side : ℕ → Option ℤ → Option ℤ
 whole_side k None = None
 whole_side k (Some b) = Some (whole k b)
@@ -71,7 +78,9 @@ rows_of terms sides = lower_rows terms sides.lower ++ upper_rows terms sides.upp
 
 -- the rows of at least that a row becomes once it is multiplied by 10^k
 abbrev pub whole_rows : ℕ → ExactRow → List Row
-whole_rows k r = rows_of (whole_terms k r.terms) (record { lower = whole_side k r.sides.lower; upper = whole_side k r.sides.upper })
+whole_rows k r =
+    rows_of (whole_terms k r.terms)
+    (record { lower = whole_side k r.sides.lower; upper = whole_side k r.sides.upper })
 
 -- the rows of at least that a row becomes
 abbrev pub admitted_rows : ExactRow → List Row
@@ -80,7 +89,8 @@ admitted_rows r = whole_rows (row_exponent r) r
 -- the rows of at least of a file's rows from row i on
 abbrev pub rows_from : List MpsCol → ℕ → List MpsRow → List Row
 rows_from cols i [] = []
-rows_from cols i (row ∷ rows) = admitted_rows (exact_row cols i row) ++ rows_from cols (i + 1) rows
+rows_from cols i (row ∷ rows) =
+    admitted_rows (exact_row cols i row) ++ rows_from cols (i + 1) rows
 
 -- the row has more than 9 decimals
 abbrev pub is_too_fine : ExactRow → Bool

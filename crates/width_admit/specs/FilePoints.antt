@@ -47,7 +47,8 @@ pub record IsFileRowMet (cols : List MpsCol) (x : List ℤ) (i : ℕ) (row : Mps
 -- the point meets the rows of the file from row i on
 abbrev pub AreFileRowsMet : List MpsCol → List ℤ → ℕ → List MpsRow → Type 0
 AreFileRowsMet cols x i [] = Unit {0}
-AreFileRowsMet cols x i (row ∷ rows) = IsFileRowMet cols x i row × AreFileRowsMet cols x (i + 1) rows
+AreFileRowsMet cols x i (row ∷ rows) =
+    IsFileRowMet cols x i row × AreFileRowsMet cols x (i + 1) rows
 
 -- a value suits the low of a file, which is 0 where the file says nothing
 abbrev pub IsAboveLow : Limit → ℤ → Type 0
@@ -74,7 +75,8 @@ pub record IsColumnValue (upper : Option ℕ) (c : MpsCol) (value : ℤ) : Type 
 -- each value of the point suits its column, from column j on
 abbrev pub AreColumnValues : Option ℕ → List ℤ → ℕ → List MpsCol → Type 0
 AreColumnValues upper x j [] = Unit {0}
-AreColumnValues upper x j (c ∷ cs) = IsColumnValue upper c (int_at x j) × AreColumnValues upper x (j + 1) cs
+AreColumnValues upper x j (c ∷ cs) =
+    IsColumnValue upper c (int_at x j) × AreColumnValues upper x (j + 1) cs
 
 -- the point is a solution of the file's model: a whole number for each column, within its bounds, that meet each row
 pub record IsSolution (m : MpsModel) (upper : Option ℕ) (x : List ℤ) : Type 0 where
@@ -94,7 +96,9 @@ IsNoWorse false objective other = objective ≤ℤ other
 -- the point is a solution of the file's model, and none has a better objective
 pub record IsBestSolution (m : MpsModel) (upper : Option ℕ) (x : List ℤ) : Type 0 where
   pub solution : IsSolution m upper x
-  pub best : (y : List ℤ) → IsSolution m upper y → IsNoWorse m.maximise (file_objective m x) (file_objective m y)
+  pub best :
+      (y : List ℤ) → IsSolution m upper y
+      → IsNoWorse m.maximise (file_objective m x) (file_objective m y)
 
 -- the file's model has no solution
 pub record HasNoSolution (m : MpsModel) (upper : Option ℕ) : Type 0 where

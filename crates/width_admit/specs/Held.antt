@@ -20,8 +20,8 @@ use Rattle.width_admit.specs.declared.columns.ColumnFault.TheVariants.{Continuou
 use Rattle.ip_core.specs.declared.limits.TheConstants.{MAX_WIDTH}
 
 -- the number, or 2^52 under its sign where it reaches further from 0
-abbrev pub held : ℤ → ℤ
-held z = signed_number (int_lt z (pos 0)) (min (unsigned_abs z) CAP)
+abbrev pub held_number : ℤ → ℤ
+held_number z = signed_number (int_lt z (pos 0)) (min (unsigned_abs z) CAP)
 
 -- 10^k makes all of these units whole exactly from k = n on
 pub record IsFinest (zs : List ℤ) (n : ℕ) : Type 0 where
@@ -30,11 +30,13 @@ pub record IsFinest (zs : List ℤ) (n : ℕ) : Type 0 where
 
 -- a decimal as a whole number under 10^k, held down
 abbrev pub held_whole : ℕ → Number → ℤ
-held_whole k value = held (whole k (units value))
+held_whole k value = held_number (whole k (units value))
 
+-- a term under 10^k, held down
 abbrev pub held_term : ℕ → Term → Term
-held_term k t = record { col = t.col; coef = held (whole k t.coef) }
+held_term k t = record { col = t.col; coef = held_number (whole k t.coef) }
 
+-- the same of terms
 abbrev pub held_terms : ℕ → List Term → List Term
 held_terms k terms = map (held_term k) terms
 
@@ -47,9 +49,11 @@ abbrev pub held_rows : ℕ → List Term → MpsRow → List Row
 held_rows k terms row = rows_of (held_terms k terms) (held_sides k row)
 
 -- the same from row i on
-abbrev pub held_from : List MpsCol → ℕ → List MpsRow → List Row
-held_from cols i [] = []
-held_from cols i (row ∷ rows) = held_rows (row_exponent (exact_row cols i row)) (exact_terms i 0 cols) row ++ held_from cols (i + 1) rows
+abbrev pub held_rows_from : List MpsCol → ℕ → List MpsRow → List Row
+held_rows_from cols i [] = []
+held_rows_from cols i (row ∷ rows) =
+    held_rows (row_exponent (exact_row cols i row)) (exact_terms i 0 cols) row
+    ++ held_rows_from cols (i + 1) rows
 
 -- the width of terms and a side is above 2^50
 abbrev pub is_wide_side : ℕ → Option ℤ → Bool
@@ -61,8 +65,8 @@ abbrev pub has_wide_side : ℕ → RowSides → Bool
 has_wide_side width sides = is_wide_side width sides.lower || is_wide_side width sides.upper
 
 -- terms as they stand, or negated
-abbrev pub turned_terms : Bool → List Term → List Term
-turned_terms negate terms = if negate then negated_terms terms else terms
+abbrev pub terms_under_sign : Bool → List Term → List Term
+terms_under_sign negate terms = if negate then negated_terms terms else terms
 
 -- the rows of one side: as they stand of a lower side, and negated of an upper one
 abbrev pub side_rows : Bool → List Term → Option ℤ → List Row
@@ -72,8 +76,10 @@ side_rows true terms side = upper_rows terms side
 -- the absolute costs of columns under 10^k, held down, times the reach of their columns in the box, added up from column j on
 abbrev pub costs_width_from : Sides → ℕ → ℕ → List MpsCol → ℕ
 costs_width_from box k j [] = 0
-costs_width_from box k j (c ∷ cs) = unsigned_abs (held_whole k c.cost) * reach box j + costs_width_from box k (j + 1) cs
+costs_width_from box k j (c ∷ cs) =
+    unsigned_abs (held_whole k c.cost) * reach box j + costs_width_from box k (j + 1) cs
 
+-- the same over all columns
 abbrev pub costs_width : Sides → ℕ → List MpsCol → ℕ
 costs_width box k cols = costs_width_from box k 0 cols
 
@@ -87,7 +93,8 @@ has_fault BoundTooLarge upper c = has_large_bound upper c
 -- the terms of the rows of at least of rows from row i on, whose coefficients are in lists
 abbrev pub terms_from : List (List Coefficient) → ℕ → List MpsRow → ℕ
 terms_from lists i [] = 0
-terms_from lists i (row ∷ rows) = side_count row * length (slice_index_or lists i []) + terms_from lists (i + 1) rows
+terms_from lists i (row ∷ rows) =
+    side_count row * length (slice_index_or lists i []) + terms_from lists (i + 1) rows
 
 -- the coefficients of each row belong to n columns and are few
 pub record AreUsable (n : ℕ) (lists : List (List Coefficient)) : Type 0 where

@@ -5,7 +5,7 @@ pub mod ExactRows
 pub mod Gathered
 pub mod Held
 pub mod KindNumbers
+pub mod Refusals
 pub mod Admission
-pub mod Outcomes
 pub mod FilePoints
 pub mod Laws

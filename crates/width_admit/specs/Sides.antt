@@ -1,5 +1,5 @@
 -- The sides of a row of a file.
-use Rattle.std.specs.Prelude.{ℕ, ℤ, pos, negsuc, ◌+ℤ◌, ◌-ℤ◌, unsigned_abs, Option, Some, None, option_map, option_to_list, length, ◌++◌}
+use Rattle.std.specs.Prelude.{ℕ, List, ℤ, pos, negsuc, ◌+ℤ◌, ◌-ℤ◌, unsigned_abs, Option, Some, None, option_map, option_to_list, length, ◌++◌}
 use Rattle.mps_model.specs.declared.model.RowKind.{RowKind}
 use Rattle.mps_model.specs.declared.model.RowKind.TheVariants.{Less, Greater, Equal}
 use Rattle.mps_model.specs.declared.model.MpsRow.{MpsRow}
@@ -24,6 +24,10 @@ sides Equal b (Some r) = equal_sides b r
 abbrev pub exact_sides : MpsRow → RowSides
 exact_sides row = sides row.kind (units row.rhs) (option_map units row.range)
 
+-- the sides that there are, the lower first
+abbrev pub side_list : RowSides → List ℤ
+side_list s = option_to_list s.lower ++ option_to_list s.upper
+
 -- how many sides a row has
 abbrev pub side_count : MpsRow → ℕ
-side_count row = length (option_to_list (exact_sides row).lower ++ option_to_list (exact_sides row).upper)
+side_count row = length (side_list (exact_sides row))

@@ -1,8 +1,8 @@
 ghost use Rattle.std.specs.Prelude.{◌≡◌, ◌≤◌, ◌^◌, None, length, map, IfOk};
 ghost use Rattle.width_admit.specs.Columns.{root as root_of_columns};
-ghost use Rattle.width_admit.specs.Admission.{admitted, refusal};
+ghost use Rattle.width_admit.specs.Admission.{admitted_model, refusal};
 ghost use Rattle.width_admit.specs.Gathered.{AreGathered};
-ghost use Rattle.width_admit.specs.Held.{held_from};
+ghost use Rattle.width_admit.specs.Held.{held_rows_from};
 
 use crate::gather::Coefficient;
 use crate::objective::{constant_of, costs_of, objective_exponent};
@@ -12,7 +12,7 @@ use mps_model::{MpsCol, MpsModel};
 use std::alloc::Global;
 
 /// Another name of the same bytes.
-fn copied(alloc: Global, name: &Name) -> Result<Name, OutOfMemory>
+fn copy_of(alloc: Global, name: &Name) -> Result<Name, OutOfMemory>
     ensures { IfOk result (λ copy. copy ≡ name.now) }
 {
     let text = name.text().copy(alloc)?;
@@ -27,7 +27,7 @@ fn names_of(alloc: Global, cols: &[MpsCol]) -> Result<List<Name>, OutOfMemory>
 {
     let mut names = List::new(alloc);
     for col in cols {
-        names.push(copied(alloc, &col.name)?)?;
+        names.push(copy_of(alloc, &col.name)?)?;
     }
     Ok(names)
 }
@@ -39,7 +39,7 @@ fn rows_of(
     lists: &[List<Coefficient>],
 ) -> Result<List<Row>, OutOfMemory>
     requires { AreGathered (length mps.now.rows) mps.now.cols lists.now }
-    ensures { IfOk result (λ rows. rows ≡ held_from mps.now.cols 0 mps.now.rows) }
+    ensures { IfOk result (λ rows. rows ≡ held_rows_from mps.now.cols 0 mps.now.rows) }
 {
     let file_rows = mps.rows.as_slice();
     let mut rows = List::new(alloc);
@@ -60,12 +60,12 @@ pub fn parts_of(
     requires gathered { AreGathered (length mps.now.rows) mps.now.cols lists.now }
     requires root { root ≡ root_of_columns upper mps.now.cols }
     requires unrefused { refusal mps.now upper ≡ None }
-    ensures { IfOk result (λ parts. parts ≡ admitted mps.now upper) }
+    ensures { IfOk result (λ parts. parts ≡ admitted_model mps.now upper) }
 {
     let cols = mps.cols.as_slice();
     let exponent = objective_exponent(mps);
     Ok(ModelParts {
-        name: copied(alloc, &mps.name)?,
+        name: copy_of(alloc, &mps.name)?,
         cols: names_of(alloc, cols)?,
         costs: costs_of(alloc, cols, mps.maximise, exponent)?,
         constant: constant_of(mps, exponent),

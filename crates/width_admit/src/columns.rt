@@ -1,7 +1,7 @@
 ghost use Rattle.std.specs.Prelude.{◌≡◌, ◌≤◌, ◌^◌, ◌&&◌, length, map, IfOk};
 ghost use Rattle.width_admit.specs.Columns.{low, high, root, given_high as given_high_of, is_unset, is_negative, is_free as is_free_of, is_large, lacks_high as lacks_high_of, has_large_bound};
 ghost use Rattle.width_admit.specs.Admission.{first_from};
-ghost use Rattle.width_admit.specs.Held.{held, has_fault as has_fault_of};
+ghost use Rattle.width_admit.specs.Held.{held_number, has_fault as has_fault_of};
 
 use crate::scale::{ceiling, floor};
 use ip_core::{Bounds, List, MAX_BOUND, OutOfMemory};
@@ -19,7 +19,7 @@ pub enum ColumnFault {
 
 /// The low of a column in whole numbers, held down: 0 where the file gives none.
 fn low_of(limit: Limit) -> i64
-    ensures { result ≡ held (low limit) }
+    ensures { result ≡ held_number (low limit) }
 {
     match limit {
         Limit::Unset | Limit::Free => 0,
@@ -29,7 +29,7 @@ fn low_of(limit: Limit) -> i64
 
 /// The high that is given for columns without one, or 0.
 fn given_high(upper: Option<u32>) -> i64
-    ensures { result ≡ held (given_high_of upper) }
+    ensures { result ≡ held_number (given_high_of upper) }
 {
     match upper {
         None => 0,
@@ -39,7 +39,7 @@ fn given_high(upper: Option<u32>) -> i64
 
 /// The high of a column in whole numbers, held down: the given one where the file gives none.
 fn high_of(upper: Option<u32>, limit: Limit) -> i64
-    ensures { result ≡ held (high upper limit) }
+    ensures { result ≡ held_number (high upper limit) }
 {
     match limit {
         Limit::Unset | Limit::Free => given_high(upper),
@@ -116,7 +116,7 @@ pub fn first_with(fault: ColumnFault, upper: Option<u32>, cols: &[MpsCol]) -> Op
 }
 
 fn lows_of(alloc: Global, cols: &[MpsCol]) -> Result<List<i64>, OutOfMemory>
-    ensures { IfOk result (λ lows. lows ≡ map (λ c. held (low c.low)) cols.now) }
+    ensures { IfOk result (λ lows. lows ≡ map (λ c. held_number (low c.low)) cols.now) }
 {
     let mut lows = List::new(alloc);
     for col in cols {
@@ -126,7 +126,7 @@ fn lows_of(alloc: Global, cols: &[MpsCol]) -> Result<List<i64>, OutOfMemory>
 }
 
 fn highs_of(alloc: Global, upper: Option<u32>, cols: &[MpsCol]) -> Result<List<i64>, OutOfMemory>
-    ensures { IfOk result (λ highs. highs ≡ map (λ c. held (high upper c.high)) cols.now) }
+    ensures { IfOk result (λ highs. highs ≡ map (λ c. held_number (high upper c.high)) cols.now) }
 {
     let mut highs = List::new(alloc);
     for col in cols {
@@ -136,7 +136,7 @@ fn highs_of(alloc: Global, upper: Option<u32>, cols: &[MpsCol]) -> Result<List<i
 }
 
 /// The box of these sides.
-fn paired(lows: List<i64>, highs: List<i64>) -> Bounds
+fn box_of(lows: List<i64>, highs: List<i64>) -> Bounds
     requires short { length lows ≤ 2 ^ 30 }
     requires same { length highs ≡ length lows }
     ensures { result ≡ record { lows = lows; highs = highs } }
@@ -155,5 +155,5 @@ pub fn root_of(alloc: Global, upper: Option<u32>, cols: &[MpsCol]) -> Result<Bou
 {
     let lows = lows_of(alloc, cols)?;
     let highs = highs_of(alloc, upper, cols)?;
-    Ok(paired(lows, highs))
+    Ok(box_of(lows, highs))
 }

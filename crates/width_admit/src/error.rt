@@ -1,11 +1,11 @@
 ghost use Rattle.std.specs.Prelude.{◌≡◌};
-ghost use Rattle.width_admit.specs.KindNumbers.{kind_of, index_of};
+ghost use Rattle.width_admit.specs.Refusals.{refusal_of};
 
+use crate::Refusal;
 use ip_core::OutOfMemory;
 use thiserror::Error;
 
-/// Why a model of a file isn't admitted. Where several reasons apply, the first in this order decides, and of one reason
-/// the first column or row. Columns and rows are numbered from 0 as in the file.
+/// Why a call gave no model: a reason why the model of a file isn't admitted, or want of memory.
 #[derive(Clone, Copy, Debug, PartialEq, Eq, Error)]
 pub enum AdmitError {
     /// The column isn't integer.
@@ -44,40 +44,43 @@ pub enum AdmitError {
 }
 
 impl AdmitError {
-    /// The number of the reason, from 1 to 10 in the order in which they decide, and 0 for want of memory.
-    pub fn kind(&self) -> u8
-        ensures { result ≡ kind_of self.now }
+    /// The reason why the model isn't admitted, or None for want of memory.
+    pub fn refusal(self) -> Option<Refusal>
+        ensures { result ≡ refusal_of self }
     {
-        match *self {
-            AdmitError::Continuous { .. } => 1,
-            AdmitError::NegativeUpper { .. } => 2,
-            AdmitError::Unbounded { .. } => 3,
-            AdmitError::BoundTooLarge { .. } => 4,
-            AdmitError::TooManyColumns => 5,
-            AdmitError::TooManyRows => 6,
-            AdmitError::TooManyTerms => 7,
-            AdmitError::RowTooFine { .. } => 8,
-            AdmitError::RowTooWide { .. } => 9,
-            AdmitError::ObjectiveTooWide => 10,
-            AdmitError::Memory => 0,
+        match self {
+            AdmitError::Continuous { col } => Some(Refusal::Continuous { col }),
+            AdmitError::NegativeUpper { col } => Some(Refusal::NegativeUpper { col }),
+            AdmitError::Unbounded { col } => Some(Refusal::Unbounded { col }),
+            AdmitError::BoundTooLarge { col } => Some(Refusal::BoundTooLarge { col }),
+            AdmitError::TooManyColumns => Some(Refusal::TooManyColumns),
+            AdmitError::TooManyRows => Some(Refusal::TooManyRows),
+            AdmitError::TooManyTerms => Some(Refusal::TooManyTerms),
+            AdmitError::RowTooFine { row } => Some(Refusal::RowTooFine { row }),
+            AdmitError::RowTooWide { row } => Some(Refusal::RowTooWide { row }),
+            AdmitError::ObjectiveTooWide => Some(Refusal::ObjectiveTooWide),
+            AdmitError::Memory => None,
         }
     }
+}
 
-    /// The column or the row of the reason, numbered from 0, and 0 where the reason has none.
-    pub fn index(&self) -> u32
-        ensures { result ≡ index_of self.now }
-    {
-        match *self {
-            AdmitError::Continuous { col }
-            | AdmitError::NegativeUpper { col }
-            | AdmitError::Unbounded { col }
-            | AdmitError::BoundTooLarge { col } => col,
-            AdmitError::RowTooFine { row } | AdmitError::RowTooWide { row } => row,
-            AdmitError::TooManyColumns
-            | AdmitError::TooManyRows
-            | AdmitError::TooManyTerms
-            | AdmitError::ObjectiveTooWide
-            | AdmitError::Memory => 0,
+impl From<Refusal> for AdmitError {
+    ghost use Rattle.std.specs.Prelude.{Some};
+
+    ghost from_gives = { λ refusal error. refusal_of error ≡ Some refusal };
+
+    fn from(refusal: Refusal) -> AdmitError {
+        match refusal {
+            Refusal::Continuous { col } => AdmitError::Continuous { col },
+            Refusal::NegativeUpper { col } => AdmitError::NegativeUpper { col },
+            Refusal::Unbounded { col } => AdmitError::Unbounded { col },
+            Refusal::BoundTooLarge { col } => AdmitError::BoundTooLarge { col },
+            Refusal::TooManyColumns => AdmitError::TooManyColumns,
+            Refusal::TooManyRows => AdmitError::TooManyRows,
+            Refusal::TooManyTerms => AdmitError::TooManyTerms,
+            Refusal::RowTooFine { row } => AdmitError::RowTooFine { row },
+            Refusal::RowTooWide { row } => AdmitError::RowTooWide { row },
+            Refusal::ObjectiveTooWide => AdmitError::ObjectiveTooWide,
         }
     }
 }

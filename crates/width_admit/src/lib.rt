@@ -8,6 +8,7 @@ mod error;
 mod gather;
 mod laws;
 mod objective;
+mod refusal;
 mod refuse;
 mod rows;
 mod scale;
@@ -20,3 +21,4 @@ pub use error::AdmitError;
 pub use laws::{
     admission_keeps_answers, admission_keeps_points, admission_keeps_rows, admission_keeps_values,
 };
+pub use refusal::Refusal;

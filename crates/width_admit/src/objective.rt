@@ -2,11 +2,11 @@ ghost use Rattle.std.specs.Prelude.{◌≡◌, ◌≤◌, ◌+◌, ◌++◌, ◌
 ghost use Rattle.ip_core.specs.Sides.{HasLimits};
 ghost use Rattle.ip_core.specs.Models.{objective_width as objective_width_of};
 ghost use Rattle.width_admit.specs.Exact.{units, are_whole};
-ghost use Rattle.width_admit.specs.Admission.{exact_costs, objective_exponent as objective_exponent_of, minimised};
+ghost use Rattle.width_admit.specs.Admission.{exact_costs, objective_exponent as objective_exponent_of, minimised_number};
 ghost use Rattle.width_admit.specs.Held.{IsFinest, held_whole, costs_width as costs_width_of};
 
-use crate::rows::{reach, turned};
-use crate::scale::{decimals, scaled};
+use crate::rows::{reach, under_sign};
+use crate::scale::{decimals, scaled_value};
 use ip_core::{Bounds, List, OutOfMemory};
 use mps_model::{MpsCol, MpsModel};
 use std::alloc::Global;
@@ -44,7 +44,7 @@ fn costs_width(cols: &[MpsCol], exponent: u8, root: &Bounds) -> u128
 {
     let mut width: u128 = 0;
     for at in 0..cols.len() {
-        let size = scaled(cols[at].cost, exponent).unsigned_abs();
+        let size = scaled_value(cols[at].cost, exponent).unsigned_abs();
         width += u128::from(size) * u128::from(reach(root, at as u32));
     }
     width
@@ -58,9 +58,10 @@ pub fn objective_width(mps: &MpsModel, exponent: u8, root: &Bounds) -> u128
     requires paired { length root.now.lows ≡ length mps.now.cols }
     requires limits { HasLimits root.now }
     requires short { length mps.now.cols ≤ 2 ^ 30 }
-    ensures { result ≡ unsigned_abs (held_whole exponent mps.now.constant) + costs_width_of root.now exponent mps.now.cols }
+    ensures { let size = unsigned_abs (held_whole exponent mps.now.constant) in
+        result ≡ size + costs_width_of root.now exponent mps.now.cols }
 {
-    let size = scaled(mps.constant, exponent).unsigned_abs();
+    let size = scaled_value(mps.constant, exponent).unsigned_abs();
     u128::from(size) + costs_width(mps.cols.as_slice(), exponent, root)
 }
 
@@ -73,11 +74,12 @@ pub fn costs_of(
 ) -> Result<List<i64>, OutOfMemory>
     requires small { exponent ≤ 18 }
     requires whole { are_whole (exact_costs cols.now) exponent ≡ true }
-    ensures { IfOk result (λ costs. costs ≡ map (λ c. minimised maximise (held_whole exponent c.cost)) cols.now) }
+    ensures { IfOk result (λ costs.
+        costs ≡ map (λ c. minimised_number maximise (held_whole exponent c.cost)) cols.now) }
 {
     let mut costs = List::new(alloc);
     for col in cols {
-        costs.push(turned(maximise, scaled(col.cost, exponent)))?;
+        costs.push(under_sign(maximise, scaled_value(col.cost, exponent)))?;
     }
     Ok(costs)
 }
@@ -86,7 +88,7 @@ pub fn costs_of(
 pub fn constant_of(mps: &MpsModel, exponent: u8) -> i64
     requires small { exponent ≤ 18 }
     requires whole { are_whole (units mps.now.constant ∷ []) exponent ≡ true }
-    ensures { result ≡ minimised mps.now.maximise (held_whole exponent mps.now.constant) }
+    ensures { result ≡ minimised_number mps.now.maximise (held_whole exponent mps.now.constant) }
 {
-    turned(mps.maximise, scaled(mps.constant, exponent))
+    under_sign(mps.maximise, scaled_value(mps.constant, exponent))
 }

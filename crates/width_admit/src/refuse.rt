@@ -1,13 +1,13 @@
 ghost use Rattle.std.specs.Prelude.{◌≡◌, ◌≤◌, ◌^◌, [], None, length, sum_by};
 ghost use Rattle.ip_core.specs.Sides.{HasLimits};
 ghost use Rattle.width_admit.specs.Columns.{root as root_of_columns};
-ghost use Rattle.width_admit.specs.Sides.{exact_sides, side_count as side_count_of};
+ghost use Rattle.width_admit.specs.Sides.{side_count as side_count_of};
 ghost use Rattle.width_admit.specs.ExactRows.{is_too_fine as is_too_fine_row};
-ghost use Rattle.width_admit.specs.Admission.{column_refusal as column_refusal_of, count_refusal as count_refusal_of, width_refusal as width_refusal_of, first_fine as first_fine_of, first_wide as first_wide_of, has_wide_objective as has_wide_objective_of};
-ghost use Rattle.width_admit.specs.Gathered.{exact, AreGathered};
+ghost use Rattle.width_admit.specs.Admission.{column_refusal as column_refusal_of, count_refusal as count_refusal_of, width_refusal as width_refusal_of, first_too_fine as first_too_fine_of, first_too_wide as first_too_wide_of, has_wide_objective as has_wide_objective_of};
+ghost use Rattle.width_admit.specs.Gathered.{listed_row, AreGathered};
 ghost use Rattle.width_admit.specs.Held.{AreUsable, terms_from};
 
-use crate::AdmitError;
+use crate::Refusal;
 use crate::columns::{ColumnFault, first_with};
 use crate::gather::Coefficient;
 use crate::objective::{objective_exponent, objective_width};
@@ -17,22 +17,22 @@ use ip_core::{Bounds, List, MAX_COLUMNS, MAX_DECIMALS, MAX_ROWS, MAX_TERMS, MAX_
 use mps_model::{MpsModel, MpsRow};
 
 /// Why a column refuses the model, if one does.
-pub fn column_refusal(mps: &MpsModel, upper: Option<u32>) -> Option<AdmitError>
+pub fn column_refusal(mps: &MpsModel, upper: Option<u32>) -> Option<Refusal>
     requires { length mps.now.cols ≤ 2 ^ 30 }
     ensures { result ≡ column_refusal_of mps.now upper }
 {
     let cols = mps.cols.as_slice();
     if let Some(col) = first_with(ColumnFault::Continuous, upper, cols) {
-        return Some(AdmitError::Continuous { col });
+        return Some(Refusal::Continuous { col });
     }
     if let Some(col) = first_with(ColumnFault::NegativeUpper, upper, cols) {
-        return Some(AdmitError::NegativeUpper { col });
+        return Some(Refusal::NegativeUpper { col });
     }
     if let Some(col) = first_with(ColumnFault::Unbounded, upper, cols) {
-        return Some(AdmitError::Unbounded { col });
+        return Some(Refusal::Unbounded { col });
     }
     if let Some(col) = first_with(ColumnFault::BoundTooLarge, upper, cols) {
-        return Some(AdmitError::BoundTooLarge { col });
+        return Some(Refusal::BoundTooLarge { col });
     }
     None
 }
@@ -64,36 +64,36 @@ fn term_count(rows: &[MpsRow], lists: &[List<Coefficient>]) -> u128
 }
 
 /// Why the number of columns, rows or terms refuses the model, if one does.
-pub fn count_refusal(mps: &MpsModel, lists: &[List<Coefficient>]) -> Option<AdmitError>
+pub fn count_refusal(mps: &MpsModel, lists: &[List<Coefficient>]) -> Option<Refusal>
     requires short { length mps.now.rows ≤ 2 ^ 30 }
     requires gathered { AreGathered (length mps.now.rows) mps.now.cols lists.now }
     ensures { result ≡ count_refusal_of mps.now }
 {
     let rows = mps.rows.as_slice();
     if mps.cols.len() > MAX_COLUMNS {
-        return Some(AdmitError::TooManyColumns);
+        return Some(Refusal::TooManyColumns);
     }
     if row_count(rows) > MAX_ROWS as u64 {
-        return Some(AdmitError::TooManyRows);
+        return Some(Refusal::TooManyRows);
     }
     if term_count(rows, lists) > MAX_TERMS as u128 {
-        return Some(AdmitError::TooManyTerms);
+        return Some(Refusal::TooManyTerms);
     }
     None
 }
 
 /// Whether a row has too many decimals.
 fn is_too_fine(terms: &[Coefficient], row: &MpsRow) -> bool
-    ensures { result ≡ is_too_fine_row (record { terms = exact terms.now; sides = exact_sides row.now }) }
+    ensures { result ≡ is_too_fine_row (listed_row terms.now row.now) }
 {
     row_exponent(terms, row) > MAX_DECIMALS
 }
 
 /// The first row that has too many decimals, if any.
-fn first_fine(mps: &MpsModel, lists: &[List<Coefficient>]) -> Option<u32>
+fn first_too_fine(mps: &MpsModel, lists: &[List<Coefficient>]) -> Option<u32>
     requires short { length mps.now.rows ≤ 2 ^ 30 }
     requires gathered { AreGathered (length mps.now.rows) mps.now.cols lists.now }
-    ensures { result ≡ first_fine_of mps.now }
+    ensures { result ≡ first_too_fine_of mps.now }
 {
     let rows = mps.rows.as_slice();
     for at in 0..rows.len() {
@@ -105,7 +105,7 @@ fn first_fine(mps: &MpsModel, lists: &[List<Coefficient>]) -> Option<u32>
 }
 
 /// The first row that is too wide, if any.
-fn first_wide(
+fn first_too_wide(
     mps: &MpsModel,
     upper: Option<u32>,
     lists: &[List<Coefficient>],
@@ -116,7 +116,7 @@ fn first_wide(
     requires usable { AreUsable (length root.now.lows) lists.now }
     requires root { root.now ≡ root_of_columns upper mps.now.cols }
     requires limits { HasLimits root.now }
-    ensures { result ≡ first_wide_of mps.now upper }
+    ensures { result ≡ first_too_wide_of mps.now upper }
 {
     let rows = mps.rows.as_slice();
     for at in 0..rows.len() {
@@ -144,7 +144,7 @@ pub fn width_refusal(
     upper: Option<u32>,
     lists: &[List<Coefficient>],
     root: &Bounds,
-) -> Option<AdmitError>
+) -> Option<Refusal>
     requires rows { length mps.now.rows ≤ 2 ^ 30 }
     requires cols { length mps.now.cols ≤ 2 ^ 30 }
     requires gathered { AreGathered (length mps.now.rows) mps.now.cols lists.now }
@@ -153,14 +153,14 @@ pub fn width_refusal(
     requires limits { HasLimits root.now }
     ensures { result ≡ width_refusal_of mps.now upper }
 {
-    if let Some(row) = first_fine(mps, lists) {
-        return Some(AdmitError::RowTooFine { row });
+    if let Some(row) = first_too_fine(mps, lists) {
+        return Some(Refusal::RowTooFine { row });
     }
-    if let Some(row) = first_wide(mps, upper, lists, root) {
-        return Some(AdmitError::RowTooWide { row });
+    if let Some(row) = first_too_wide(mps, upper, lists, root) {
+        return Some(Refusal::RowTooWide { row });
     }
     if has_wide_objective(mps, upper, root) {
-        return Some(AdmitError::ObjectiveTooWide);
+        return Some(Refusal::ObjectiveTooWide);
     }
     None
 }

@@ -1,14 +1,14 @@
-ghost use Rattle.std.specs.Prelude.{◌≡◌, ◌≤◌, ◌<◌, ◌+◌, ◌*◌, ◌++◌, ◌^◌, true, neg_ℤ, if◌then◌else◌, length, map, option_to_list, unsigned_abs, sum_by, IfOk, IfSome, OnOk};
+ghost use Rattle.std.specs.Prelude.{◌≡◌, ◌≤◌, ◌<◌, ◌+◌, ◌*◌, ◌++◌, ◌^◌, true, neg_ℤ, if◌then◌else◌, length, map, unsigned_abs, sum_by, IfOk, IfSome, OnOk};
 ghost use Rattle.ip_core.specs.Sides.{HasLimits, reach as reach_of};
 ghost use Rattle.ip_core.specs.Rows.{AreTerms, term_width};
 ghost use Rattle.width_admit.specs.Exact.{are_whole};
-ghost use Rattle.width_admit.specs.Sides.{exact_sides};
+ghost use Rattle.width_admit.specs.Sides.{exact_sides, side_list};
 ghost use Rattle.width_admit.specs.ExactRows.{row_exponent as row_exponent_of, is_too_wide as is_too_wide_row};
-ghost use Rattle.width_admit.specs.Held.{IsFinest, held_terms, held_rows, is_wide_side, has_wide_side as has_wide_side_of, turned_terms, side_rows};
-ghost use Rattle.width_admit.specs.Gathered.{exact};
+ghost use Rattle.width_admit.specs.Held.{IsFinest, held_terms, held_rows, is_wide_side, has_wide_side as has_wide_side_of, terms_under_sign, side_rows};
+ghost use Rattle.width_admit.specs.Gathered.{exact, listed_row};
 
 use crate::gather::Coefficient;
-use crate::scale::{CAP, decimals, scaled};
+use crate::scale::{CAP, decimals, scaled_value};
 use crate::sides::{RowSides, scaled_sides, side_decimals};
 use ip_core::{Bounds, List, MAX_WIDTH, OutOfMemory, Row, Term};
 use mps_model::MpsRow;
@@ -27,10 +27,10 @@ fn term_decimals(terms: &[Coefficient]) -> u8
 
 /// The least exponent of a power of ten that makes a row's coefficients and sides whole.
 pub fn row_exponent(terms: &[Coefficient], row: &MpsRow) -> u8
-    ensures value { result ≡ row_exponent_of (record { terms = exact terms.now; sides = exact_sides row.now }) }
+    ensures value { result ≡ row_exponent_of (listed_row terms.now row.now) }
     ensures small { result ≤ 18 }
     ensures terms { are_whole (map (λ t. t.coef) (exact terms.now)) result ≡ true }
-    ensures sides { are_whole (option_to_list (exact_sides row.now).lower ++ option_to_list (exact_sides row.now).upper) result ≡ true }
+    ensures sides { are_whole (side_list (exact_sides row.now)) result ≡ true }
 {
     term_decimals(terms).max(side_decimals(row))
 }
@@ -51,12 +51,13 @@ fn terms_width(terms: &[Coefficient], exponent: u8, root: &Bounds) -> u128
     requires known { AreTerms (length root.now.lows) (exact terms.now) }
     requires limits { HasLimits root.now }
     requires short { length terms.now ≤ 2 ^ 30 }
-    ensures value { result ≡ sum_by (term_width root.now) (held_terms exponent (exact terms.now)) }
+    ensures value { result
+        ≡ sum_by (term_width root.now) (held_terms exponent (exact terms.now)) }
     ensures small { result ≤ 2 ^ 113 }
 {
     let mut width = 0;
     for term in terms {
-        let size = scaled(term.value, exponent).unsigned_abs();
+        let size = scaled_value(term.value, exponent).unsigned_abs();
         width += u128::from(size) * u128::from(reach(root, term.col));
     }
     width
@@ -86,7 +87,7 @@ pub fn is_too_wide(terms: &[Coefficient], row: &MpsRow, root: &Bounds) -> bool
     requires known { AreTerms (length root.now.lows) (exact terms.now) }
     requires limits { HasLimits root.now }
     requires short { length terms.now ≤ 2 ^ 30 }
-    ensures { result ≡ is_too_wide_row root.now (record { terms = exact terms.now; sides = exact_sides row.now }) }
+    ensures { result ≡ is_too_wide_row root.now (listed_row terms.now row.now) }
 {
     let exponent = row_exponent(terms, row);
     let width = terms_width(terms, exponent, root);
@@ -94,7 +95,7 @@ pub fn is_too_wide(terms: &[Coefficient], row: &MpsRow, root: &Bounds) -> bool
 }
 
 /// A number that is held down, or that number negated.
-pub fn turned(negate: bool, number: i64) -> i64
+pub fn under_sign(negate: bool, number: i64) -> i64
     requires { unsigned_abs number ≤ 2 ^ 54 }
     ensures { result ≡ (if negate then neg_ℤ number else number) }
 {
@@ -110,13 +111,14 @@ fn whole_terms(
 ) -> Result<List<Term>, OutOfMemory>
     requires small { exponent ≤ 18 }
     requires whole { are_whole (map (λ t. t.coef) (exact terms.now)) exponent ≡ true }
-    ensures { IfOk result (λ whole. whole ≡ turned_terms negate (held_terms exponent (exact terms.now))) }
+    ensures { IfOk result (λ whole.
+        whole ≡ terms_under_sign negate (held_terms exponent (exact terms.now))) }
 {
     let mut whole = List::new(alloc);
     for term in terms {
         whole.push(Term {
             col: term.col,
-            coef: turned(negate, scaled(term.value, exponent)),
+            coef: under_sign(negate, scaled_value(term.value, exponent)),
         })?;
     }
     Ok(whole)
@@ -134,13 +136,14 @@ fn push_side(
     requires small { exponent ≤ 18 }
     requires whole { are_whole (map (λ t. t.coef) (exact terms.now)) exponent ≡ true }
     requires held { IfSome side (λ b. unsigned_abs b ≤ 2 ^ 54) }
-    ensures { OnOk result (rows.new ≡ rows.old ++ side_rows is_upper (held_terms exponent (exact terms.now)) side) }
+    ensures { OnOk result
+        (rows.new ≡ rows.old ++ side_rows is_upper (held_terms exponent (exact terms.now)) side) }
 {
     match side {
         None => Ok(()),
         Some(side) => {
             let terms = whole_terms(alloc, terms, exponent, is_upper)?;
-            let least = turned(is_upper, side);
+            let least = under_sign(is_upper, side);
             rows.push(Row { terms, least })
         }
     }
@@ -153,7 +156,8 @@ pub fn push_rows(
     terms: &[Coefficient],
     row: &MpsRow,
 ) -> Result<(), OutOfMemory>
-    ensures { OnOk result (rows.new ≡ rows.old ++ held_rows (row_exponent_of (record { terms = exact terms.now; sides = exact_sides row.now })) (exact terms.now) row.now) }
+    ensures { let exponent = row_exponent_of (listed_row terms.now row.now) in
+        OnOk result (rows.new ≡ rows.old ++ held_rows exponent (exact terms.now) row.now) }
 {
     let exponent = row_exponent(terms, row);
     let sides = scaled_sides(row, exponent);

@@ -2,7 +2,7 @@ ghost use Rattle.std.specs.Prelude.{◌≡◌, ◌≤◌, ◌<◌, ◌*◌, ◌^
 ghost use Rattle.std.specs.Int.{int_div_euclid};
 ghost use Rattle.ip_core.specs.Decimals.{signed_number};
 ghost use Rattle.width_admit.specs.Exact.{units, is_whole, floor as floor_of, ceiling as ceiling_of};
-ghost use Rattle.width_admit.specs.Held.{held, held_whole, IsFinest};
+ghost use Rattle.width_admit.specs.Held.{held_number, held_whole, IsFinest};
 
 use ip_core::Decimal;
 
@@ -27,7 +27,7 @@ fn held_size(size: u64, power: u32) -> u64
 }
 
 /// A size under its sign.
-fn signed(negative: bool, size: u64) -> i64
+fn signed_size(negative: bool, size: u64) -> i64
     requires { size ≤ CAP }
     ensures { result ≡ signed_number negative size }
 {
@@ -47,14 +47,14 @@ fn power(exponent: i16, more: u8) -> u32
 
 /// A decimal times ten to the power of `exponent`, which makes it whole, or the cap under its sign where that reaches
 /// further from 0.
-pub fn scaled(value: Decimal, exponent: u8) -> i64
+pub fn scaled_value(value: Decimal, exponent: u8) -> i64
     requires small { exponent ≤ 18 }
     requires whole { is_whole exponent (units value) ≡ true }
     ensures { result ≡ held_whole exponent value }
 {
     let mantissa = value.mantissa();
     let power = power(value.exponent(), exponent);
-    signed(mantissa < 0, held_size(mantissa.unsigned_abs(), power))
+    signed_size(mantissa < 0, held_size(mantissa.unsigned_abs(), power))
 }
 
 /// How many decimals a number has: the least exponent of a power of ten that makes it whole.
@@ -69,22 +69,22 @@ pub fn decimals(value: Decimal) -> u8
 fn quotient_down(mantissa: i64, divisor: u64) -> i64
     requires positive { 0 < divisor }
     requires small { divisor ≤ 10 ^ 18 }
-    ensures { result ≡ held (int_div_euclid mantissa (pos divisor)) }
+    ensures { result ≡ held_number (int_div_euclid mantissa (pos divisor)) }
 {
     let quotient = mantissa.div_euclid(divisor as i64);
-    signed(quotient < 0, quotient.unsigned_abs().min(CAP))
+    signed_size(quotient < 0, quotient.unsigned_abs().min(CAP))
 }
 
 /// The greatest whole number that isn't above a decimal, or the cap under its sign.
 pub fn floor(value: Decimal) -> i64
-    ensures { result ≡ held (floor_of value) }
+    ensures { result ≡ held_number (floor_of value) }
 {
     let mantissa = value.mantissa();
     let exponent = value.exponent();
     if exponent < 0 {
         quotient_down(mantissa, 10_u64.pow((-exponent) as u32))
     } else {
-        signed(
+        signed_size(
             mantissa < 0,
             held_size(mantissa.unsigned_abs(), exponent as u32),
         )
@@ -93,7 +93,7 @@ pub fn floor(value: Decimal) -> i64
 
 /// The least whole number that isn't below a decimal, or the cap under its sign.
 pub fn ceiling(value: Decimal) -> i64
-    ensures { result ≡ held (ceiling_of value) }
+    ensures { result ≡ held_number (ceiling_of value) }
 {
     -floor(value.negation())
 }

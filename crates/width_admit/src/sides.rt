@@ -1,9 +1,9 @@
-ghost use Rattle.std.specs.Prelude.{◌≡◌, ◌+ℤ◌, ◌-ℤ◌, ◌++◌, ◌≤◌, ◌^◌, IfSome, pos, true, unsigned_abs, option_to_list};
+ghost use Rattle.std.specs.Prelude.{◌≡◌, ◌+ℤ◌, ◌-ℤ◌, ◌≤◌, ◌^◌, IfSome, pos, true, unsigned_abs};
 ghost use Rattle.width_admit.specs.Exact.{are_whole};
-ghost use Rattle.width_admit.specs.Sides.{exact_sides, sides, side_count as side_count_of};
+ghost use Rattle.width_admit.specs.Sides.{exact_sides, side_list, sides, side_count as side_count_of};
 ghost use Rattle.width_admit.specs.Held.{held_sides, IsFinest};
 
-use crate::scale::{CAP, decimals, scaled};
+use crate::scale::{CAP, decimals, scaled_value};
 use mps_model::{MpsRow, RowKind};
 
 /// What a row's sum is at least and at most.
@@ -26,7 +26,7 @@ pub fn side_count(row: &MpsRow) -> usize
 
 /// How many decimals a row's sides have.
 pub fn side_decimals(row: &MpsRow) -> u8
-    ensures { IsFinest (option_to_list (exact_sides row.now).lower ++ option_to_list (exact_sides row.now).upper) result }
+    ensures { IsFinest (side_list (exact_sides row.now)) result }
 {
     let side = decimals(row.rhs);
     match row.range {
@@ -46,7 +46,7 @@ fn sum(side: i64, range: i64) -> i64
 }
 
 /// A number that is held down less the size of another.
-fn lowered(side: i64, range: i64) -> i64
+fn less_size(side: i64, range: i64) -> i64
     requires side { unsigned_abs side ≤ CAP }
     requires range { unsigned_abs range ≤ CAP }
     ensures value { result ≡ side -ℤ pos (unsigned_abs range) }
@@ -56,7 +56,7 @@ fn lowered(side: i64, range: i64) -> i64
 }
 
 /// A number that is held down and the size of another.
-fn raised(side: i64, range: i64) -> i64
+fn plus_size(side: i64, range: i64) -> i64
     requires side { unsigned_abs side ≤ CAP }
     requires range { unsigned_abs range ≤ CAP }
     ensures value { result ≡ side +ℤ pos (unsigned_abs range) }
@@ -74,8 +74,8 @@ fn ranged_sides(kind: RowKind, side: i64, range: i64) -> RowSides
     ensures upper { IfSome result.upper (λ side. unsigned_abs side ≤ 2 ^ 54) }
 {
     let (lower, upper) = match kind {
-        RowKind::Less => (lowered(side, range), side),
-        RowKind::Greater => (side, raised(side, range)),
+        RowKind::Less => (less_size(side, range), side),
+        RowKind::Greater => (side, plus_size(side, range)),
         RowKind::Equal if range < 0 => (sum(side, range), side),
         RowKind::Equal => (side, sum(side, range)),
     };
@@ -111,14 +111,14 @@ fn plain_sides(kind: RowKind, side: i64) -> RowSides
 /// The sides of a row times ten to the power of `exponent`, which makes them whole, held down.
 pub fn scaled_sides(row: &MpsRow, exponent: u8) -> RowSides
     requires small { exponent ≤ 18 }
-    requires whole { are_whole (option_to_list (exact_sides row.now).lower ++ option_to_list (exact_sides row.now).upper) exponent ≡ true }
+    requires whole { are_whole (side_list (exact_sides row.now)) exponent ≡ true }
     ensures value { result ≡ held_sides exponent row.now }
     ensures lower { IfSome result.lower (λ side. unsigned_abs side ≤ 2 ^ 54) }
     ensures upper { IfSome result.upper (λ side. unsigned_abs side ≤ 2 ^ 54) }
 {
-    let side = scaled(row.rhs, exponent);
+    let side = scaled_value(row.rhs, exponent);
     match row.range {
         None => plain_sides(row.kind, side),
-        Some(range) => ranged_sides(row.kind, side, scaled(range, exponent)),
+        Some(range) => ranged_sides(row.kind, side, scaled_value(range, exponent)),
     }
 }

@@ -281,7 +281,7 @@ fn model_of(alloc: Global, file: &Text) -> Option<MpsModel>
     }
 }
 
-fn admitted(
+fn admission(
     alloc: Global,
     file: &Text,
     upper: Option<u32>,
@@ -292,9 +292,12 @@ fn admitted(
 
 /// The number and the index of the refusal, or None where the model is admitted.
 fn refusal(alloc: Global, file: &Text, upper: Option<u32>) -> Result<Option<(u8, u32)>, Fail> {
-    match admitted(alloc, file, upper)? {
+    match admission(alloc, file, upper)? {
         Ok(_) => Ok(None),
-        Err(error) => Ok(Some((error.kind(), error.index()))),
+        Err(error) => {
+            let refusal = error.refusal().ok_or("memory")?;
+            Ok(Some((refusal.kind(), refusal.index())))
+        }
     }
 }
 
@@ -562,7 +565,7 @@ const WHOLE: [Whole; 5] = [
 fn is_admitted_so(alloc: Global, case: &Whole) -> Result<bool, Fail> {
     let ((rows, rest), want_rows, (lows, highs), costs, (constant, decimals)) = *case;
     let file = file(alloc, rows, rest)?;
-    let model = admitted(alloc, &file, None)??;
+    let model = admission(alloc, &file, None)??;
     Ok(
         has_rows(&model, want_rows)
             && model.root().lows() == lows
@@ -594,7 +597,7 @@ fn negates_what_is_maximised(rt: HostRuntime) -> Result<(), Fail> {
         &mut text,
         "OBJSENSE MAX\nROWS\n N c\nCOLUMNS\n x c 1.5\nRHS\n r c 2\nBOUNDS\n BV b x\nENDATA\n",
     )?;
-    let model = admitted(alloc, &text, None)??;
+    let model = admission(alloc, &text, None)??;
     assert!(rt; model.maximise());
     assert_eq!(rt; model.costs(), [-15].as_slice());
     assert_eq!(rt; model.constant(), 20);

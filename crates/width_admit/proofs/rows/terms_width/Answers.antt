@@ -9,8 +9,8 @@ use Rattle.width_admit.specs.Gathered.{exact}
 use Rattle.width_admit.proofs.Coefficients.{coefficient_whole, column_known, width_more, reach_small, part_small}
 use Rattle.width_admit.proofs.rows.terms_width.Goals as goal
 
-pub scaled-requires-clause-whole : goal.scaled-requires-clause-whole
-scaled-requires-clause-whole c = rw c.term-item.is (coefficient_whole c.args.exponent c.args.terms.now c.loop-term.term-index c.term-item.result c.loop-term-test.true c.requires.whole)
+pub scaled_value-requires-clause-whole : goal.scaled_value-requires-clause-whole
+scaled_value-requires-clause-whole c = rw c.term-item.is (coefficient_whole c.args.exponent c.args.terms.now c.loop-term.term-index c.term-item.result c.loop-term-test.true c.requires.whole)
 
 pub reach-requires : goal.reach-requires
 reach-requires c = rw c.term-item.is (column_known _ c.args.terms.now c.loop-term.term-index c.term-item.result c.loop-term-test.true c.requires.known)
@@ -21,8 +21,8 @@ loop-term-preserved c =
     let root = c.args.root.now in
     let terms = c.args.terms.now in
     let t = c.term-item.result in
-    let fits : FitsSigned w64 c.scaled.result = record { sfits = c.scaled.type_inv } in
-    let size : c.from.result ≡ unsigned_abs (held_whole k t.value) = c.from.ensures ∙ c.unsigned_abs-size.ensures.value ∙ ap unsigned_abs (to_z-of_z w64 c.scaled.result fits ∙ c.scaled.ensures) in
+    let fits : FitsSigned w64 c.scaled_value.result = record { sfits = c.scaled_value.type_inv } in
+    let size : c.from.result ≡ unsigned_abs (held_whole k t.value) = c.from.ensures ∙ c.unsigned_abs-size.ensures.value ∙ ap unsigned_abs (to_z-of_z w64 c.scaled_value.result fits ∙ c.scaled_value.ensures) in
     let far : c.from-in-loop-term.result ≡ reach root t.col = c.from-in-loop-term.ensures ∙ c.reach.ensures in
     let part : unsigned_abs (held_whole k t.value) * reach root t.col ≤ 2 ^ 83 = part_small (whole k (units t.value)) (reach root t.col) (reach_small root t.col c.requires.limits) in
     rw (size, far) (record {

@@ -1,7 +1,7 @@
 use Rattle.std.proofs.Common.{◌≡◌, drop}
 use Rattle.width_admit.specs.ExactRows.{exact_row, is_too_fine}
 use Rattle.width_admit.specs.Admission.{first_from}
-use Rattle.width_admit.proofs.refuse.first_fine.Given as goal
+use Rattle.width_admit.proofs.refuse.first_too_fine.Given as goal
 
 abbrev pub invariant-loop-at : goal.invariant-loop-at
 invariant-loop-at l =

@@ -6,7 +6,7 @@ use Rattle.width_admit.specs.Admission.{first_from}
 use Rattle.width_admit.specs.Gathered.{exact}
 use Rattle.width_admit.proofs.Firsts.{first_found}
 use Rattle.width_admit.proofs.Refusals.{row_test, read_list}
-use Rattle.width_admit.proofs.refuse.first_wide.Goals as goal
+use Rattle.width_admit.proofs.refuse.first_too_wide.Goals as goal
 
 pub is_too_wide-requires-clause-known : goal.is_too_wide-requires-clause-known
 is_too_wide-requires-clause-known c =
