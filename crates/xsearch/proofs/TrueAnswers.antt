@@ -11,7 +11,7 @@ use Rattle.plain_tasks.specs.declared.answer.Answer.{Answer}
 use Rattle.plain_tasks.specs.declared.answer.Status.{Status}
 use Rattle.plain_tasks.specs.declared.answer.Status.TheVariants.{Optimal, Infeasible, StoreLimit, WorkLimit}
 use Rattle.plain_tasks.specs.declared.view.Best.{Best}
-use Rattle.width_admit.specs.Admission.{Admits, minimised}
+use Rattle.width_admit.specs.Admission.{Admits, minimised_number}
 use Rattle.width_admit.specs.FilePoints.{file_objective}
 use Rattle.width_admit.proofs.FileAnswers.{admission_keeps_answers}
 use Rattle.width_admit.proofs.FilePoints.{admission_keeps_points}
@@ -36,7 +36,7 @@ pub one_each : (m : ModelParts) (answer : Answer) → IsTrueAnswer m answer → 
 one_each m answer truth = status_one_each m answer.status answer.best truth.told
 
 -- the sense of a file is taken back
-by_sense : (maximise : Bool) (f s a b : ℤ) → minimised maximise f *ℤ a ≡ s *ℤ b → f *ℤ a ≡ (if maximise then neg_ℤ s else s) *ℤ b
+by_sense : (maximise : Bool) (f s a b : ℤ) → minimised_number maximise f *ℤ a ≡ s *ℤ b → f *ℤ a ≡ (if maximise then neg_ℤ s else s) *ℤ b
 by_sense true f s a b h =
     let left : neg_ℤ f *ℤ a ≡ neg_ℤ (f *ℤ a) = neg_product f a in
     let right : neg_ℤ s *ℤ b ≡ neg_ℤ (s *ℤ b) = neg_product s b in
@@ -62,7 +62,7 @@ module _ (mps : MpsModel) (upper : Option ℕ) (m : ModelParts) (valid : IsMpsMo
       let a = pos (10 ^ m.decimals) in
       let b = pos (10 ^ 18) in
       let sense : m.maximise ≡ mps.maximise = ap (λ (p : ModelParts). p.maximise) admits.whole in
-      let law : minimised mps.maximise f *ℤ a ≡ s *ℤ b = subst (λ (v : ℤ). minimised mps.maximise f *ℤ a ≡ (v +ℤ m.constant) *ℤ b) (sym valued) (admission_keeps_values mps upper m admits best.point) in
+      let law : minimised_number mps.maximise f *ℤ a ≡ s *ℤ b = subst (λ (v : ℤ). minimised_number mps.maximise f *ℤ a ≡ (v +ℤ m.constant) *ℤ b) (sym valued) (admission_keeps_values mps upper m admits best.point) in
       subst (λ (t : Bool). f *ℤ a ≡ (if t then neg_ℤ s else s) *ℤ b) (sym sense) (by_sense mps.maximise f s a b law)
 
   found_objective : (best : Option Best) → IsFound m best → IsFileObjective mps m best

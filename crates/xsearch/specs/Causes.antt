@@ -6,7 +6,7 @@ use Rattle.mps_model.specs.declared.model.MpsModel.{MpsModel}
 use Rattle.plain_tasks.specs.LimitCauses.{HasLimitCause}
 use Rattle.plain_tasks.specs.Truth.{IsTrueAnswer}
 use Rattle.width_admit.specs.Admission.{Admits, refusal}
-use Rattle.width_admit.specs.declared.error.AdmitError.{AdmitError}
+use Rattle.width_admit.specs.declared.refusal.Refusal.{Refusal}
 use Rattle.sample_model.specs.Samples.{generated}
 use Rattle.xsearch_words.specs.Jobs.{job}
 use Rattle.xsearch_words.specs.declared.job.Job.{Job}
@@ -36,7 +36,7 @@ pub record IsAnswer (m : ModelParts) (tune : Tune) (answer : PrintedAnswer) : Ty
 -- the reason why it isn't admitted; or no memory, which is free.
 pub data IsSolved (tune : Tune) (upper : Option ℕ) (mps : MpsModel) (found : Result Outcome Failure) : Type 0 where
   Solved : (m : ModelParts) (answer : PrintedAnswer) → found ≡ Ok (Answered answer) → Admits mps upper m → IsAnswer m tune answer → IsTrueOfFile mps upper m (searched m tune) → IsSolved tune upper mps found
-  NotAdmitted : (error : AdmitError) → found ≡ Err (Model error) → refusal mps upper ≡ Some error → IsSolved tune upper mps found
+  NotAdmitted : (reason : Refusal) → found ≡ Err (Model reason) → refusal mps upper ≡ Some reason → IsSolved tune upper mps found
   Unsolved : found ≡ Err Memory → IsSolved tune upper mps found
 
 -- what printing a model finds: its canonical text, or no memory

@@ -51,6 +51,6 @@ EndsAs (Ok (Printed text)) old new status = IsPut old new text Done status
 EndsAs (Err Words) old new status = IsPut old new words_refusal RefusedWords status
 EndsAs (Err Length) old new status = IsPut old new length_refusal RefusedInput status
 EndsAs (Err (Mps line kind)) old new status = IsPut old new (mps_refusal line (kind_number kind)) RefusedInput status
-EndsAs (Err (Model error)) old new status = IsPut old new (model_refusal (kind_of error) (index_of error)) RefusedInput status
+EndsAs (Err (Model reason)) old new status = IsPut old new (model_refusal (kind_of reason) (index_of reason)) RefusedInput status
 EndsAs (Err Unread) old new status = IsSilent old new ShelfFailed status
 EndsAs (Err Memory) old new status = IsSilent old new NoMemory status

@@ -27,7 +27,7 @@ abbrev pub IsUnread : ShelfState → ShelfState → List ℕ → Failure → Typ
 IsUnread old new name Words = ⊥
 IsUnread old new name Length = IsLongFile old name
 IsUnread old new name (Mps line kind) = IsRefusedFile old name line kind
-IsUnread old new name (Model error) = ⊥
+IsUnread old new name (Model reason) = ⊥
 IsUnread old new name Unread = HasFailed old.faults new.faults new.last (failed_read name)
 IsUnread old new name Memory = Unit {0}
 

@@ -2,7 +2,7 @@ use ip_core::Text;
 use mps_read::MpsKind;
 use plain_tasks::Status;
 use thiserror::Error;
-use width_admit::AdmitError;
+use width_admit::Refusal;
 
 /// The answer of a search as it is printed: how the search ended, and the text.
 #[derive(Debug, Drop)]
@@ -33,8 +33,8 @@ pub enum Failure {
     #[error("refused mps line {line}: {kind:?}")]
     Mps { line: u32, kind: MpsKind },
     /// A model isn't admitted.
-    #[error("refused model: {0}")]
-    Model(AdmitError),
+    #[error("refused model: {0:?}")]
+    Model(Refusal),
     /// A read failed.
     #[error("a file could not be read")]
     Unread,

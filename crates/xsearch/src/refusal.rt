@@ -8,7 +8,7 @@ use ip_core::{OutOfMemory, Text};
 use itoa::Buffer;
 use mps_read::MpsKind;
 use std::alloc::Global;
-use width_admit::AdmitError;
+use width_admit::Refusal;
 
 /// The refusal of a line of a model file.
 pub fn mps_refusal(alloc: Global, line: u32, kind: MpsKind) -> Result<Text, OutOfMemory>
@@ -24,14 +24,14 @@ pub fn mps_refusal(alloc: Global, line: u32, kind: MpsKind) -> Result<Text, OutO
 }
 
 /// The refusal of a model that isn't admitted.
-pub fn model_refusal(alloc: Global, error: AdmitError) -> Result<Text, OutOfMemory>
-    ensures { IfOk result (λ text. text ≡ model_refusal_of (kind_of error) (index_of error)) }
+pub fn model_refusal(alloc: Global, refusal: Refusal) -> Result<Text, OutOfMemory>
+    ensures { IfOk result (λ text. text ≡ model_refusal_of (kind_of refusal) (index_of refusal)) }
 {
     let mut text = Text::new(alloc);
     text.extend(b"refused model kind ")?;
-    append_number(&mut text, u32::from(error.kind()))?;
+    append_number(&mut text, u32::from(refusal.kind()))?;
     text.extend(b" index ")?;
-    append_number(&mut text, error.index())?;
+    append_number(&mut text, refusal.index())?;
     text.push(b'\n')?;
     Ok(text)
 }

@@ -11,7 +11,7 @@ use crate::status::{ExitStatus, exit_code, exit_status};
 use ip_core::OutOfMemory;
 use mps_read::MpsKind;
 use std::alloc::Global;
-use width_admit::AdmitError;
+use width_admit::Refusal;
 use xsearch_words::{Sink, WriteError};
 
 /// Puts what was found, and answers the exit status.
@@ -57,10 +57,10 @@ fn put_mps_refusal<O: Sink>(alloc: Global, out: &mut O, line: u32, kind: MpsKind
     }
 }
 
-fn put_model_refusal<O: Sink>(alloc: Global, out: &mut O, error: AdmitError) -> ExitStatus
-    ensures { IsPut (record { out = O.told out.old; faults = O.faults out.old }) (record { out = O.told out.new; faults = O.faults out.new }) (model_refusal_of (kind_of error) (index_of error)) ExitStatus.RefusedInput result }
+fn put_model_refusal<O: Sink>(alloc: Global, out: &mut O, refusal: Refusal) -> ExitStatus
+    ensures { IsPut (record { out = O.told out.old; faults = O.faults out.old }) (record { out = O.told out.new; faults = O.faults out.new }) (model_refusal_of (kind_of refusal) (index_of refusal)) ExitStatus.RefusedInput result }
 {
-    match model_refusal(alloc, error) {
+    match model_refusal(alloc, refusal) {
         Ok(text) => put(alloc, out, text.as_slice(), ExitStatus::RefusedInput),
         Err(OutOfMemory) => ExitStatus::NoMemory,
     }

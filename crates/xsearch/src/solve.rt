@@ -95,9 +95,9 @@ fn refuse(
     requires { IsCause mps.now default_upper error }
     ensures { IsSolved tune.now default_upper mps.now result }
 {
-    match error {
-        AdmitError::Memory => Err(Failure::Memory),
-        _ => Err(Failure::Model(error)),
+    match error.refusal() {
+        Some(refusal) => Err(Failure::Model(refusal)),
+        None => Err(Failure::Memory),
     }
 }
 

@@ -1,5 +1,6 @@
-use Rattle.xsearch.proofs.Refused.{refused}
+use Rattle.std.proofs.Common.{refl, sym}
+use Rattle.xsearch.specs.Causes.{NotAdmitted}
 use Rattle.xsearch.proofs.solve.refuse.Goals as goal
 
-pub returns-in_default : goal.returns-in_default
-returns-in_default c = refused c.args.tune.now c.args.default_upper c.args.mps.now c.args.error c.in_default.not-Memory c.requires
+pub returns-in_Some : goal.returns-in_Some
+returns-in_Some c = NotAdmitted c.in-Some.refusal refl (c.requires.refused c.in-Some.refusal (sym c.in-Some.ensures))
