@@ -11,3 +11,7 @@ pub mod Named
 pub mod Replaying
 pub mod Causes
 pub mod Propagating
+pub mod Transposing
+pub mod Moving
+pub mod Movable
+pub mod Summing

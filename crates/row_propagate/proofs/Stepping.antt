@@ -34,7 +34,8 @@ ordered_at s col same =
     let fails : int_lt (int_at s.highs col) (int_at s.lows col) ≡ false = not_emptied _ col same in
     omega (arith, ints)
 
-at_or_apart : {P : Type 0} (k col : ℕ) → (k ≡ col → P) → (k ≢ col → P) → P
+-- a number is another, or isn't
+pub at_or_apart : {P : Type 0} (k col : ℕ) → (k ≡ col → P) → (k ≢ col → P) → P
 at_or_apart k col at apart = ⊎_elim (λ same. at same.1) (λ other. apart other.1) (eqb_tells k col)
 
 -- where its column isn't emptied, it has no empty column

@@ -4,3 +4,5 @@ pub mod Passes
 pub mod Replay
 pub mod Lawful
 pub mod Points
+pub mod Kept
+pub mod Moves

@@ -5,16 +5,20 @@
 //! than the box can give, or a column becomes empty. No point of the box that meets all rows is lost.
 #![tactic(auto)]
 
+mod activities;
 mod activity;
+mod columns;
 mod narrowing;
 mod outcome;
 mod passes;
 mod quotient;
 mod row_kind;
 mod single;
+mod sums;
 #[cfg(test)]
 mod tests;
 
+pub use activities::Activities;
 pub use outcome::{Outcome, PassRun};
 pub use passes::propagate;
 pub use single::{conflict, tighten};
