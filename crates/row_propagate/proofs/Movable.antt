@@ -5,8 +5,9 @@ use Rattle.std.proofs.lemmas.List.Elements.{All-append, All-weaker}
 use Rattle.std.proofs.lemmas.List.Sums.{sum_by-cons}
 use Rattle.ip_core.specs.Numbers.{int_at}
 use Rattle.ip_core.specs.Sides.{Sides, reach}
-use Rattle.ip_core.specs.Boxes.{IsWithin, greatest_activity, greatest_part}
-use Rattle.ip_core.specs.Rows.{IsRow, AreRows, AreTerms, term_width, row_width}
+use Rattle.ip_core.specs.Boxes.{IsWithinReach, greatest_activity, greatest_part}
+use Rattle.ip_core.proofs.Reaching.{row_ready}
+use Rattle.ip_core.specs.Rows.{IsReady, IsRow, AreRows, AreTerms, term_width}
 use Rattle.ip_core.specs.declared.model.ModelParts.{ModelParts}
 use Rattle.ip_core.specs.declared.row.Row.{Row}
 use Rattle.ip_core.specs.declared.row.Term.{Term}
@@ -14,31 +15,11 @@ use Rattle.ip_core.proofs.BoxParts.{greatest_part_small}
 use Rattle.ip_core.proofs.IntSums.{unsigned_abs_between, unsigned_abs-int_sum_by}
 use Rattle.ip_core.proofs.NarrowerBoxes.{set_keeps}
 use Rattle.row_propagate.specs.declared.activities.Activities.{Activities}
-use Rattle.row_propagate.specs.Kept.{coefs_at, entries, moved_by, with_ends, AreColumns, AreSums, IsWithinReach, AreKeepable, IsKept, IsMove, IsMovable}
+use Rattle.row_propagate.specs.Kept.{coefs_at, entries, moved_by, with_ends, AreColumns, AreSums, AreKeepable, IsKept, IsMove, IsMovable}
 use Rattle.row_propagate.specs.Moves.{AreEntries, AreNarrowMoves, StaySmall, HaveTerms}
 use Rattle.row_propagate.specs.Replay.{no_row}
-use Rattle.row_propagate.specs.Ready.{IsReady, AreReady}
 use Rattle.row_propagate.proofs.Transposing.{coefs_of_column, entries_known}
 use Rattle.row_propagate.proofs.Moving.{Reach, part_size, narrow_move, moved_small, front_size, coefs_size, entry_size, activity_moved}
-
--- a column reaches no further than in a box that this box reaches no further than
-reach_within : (root s : Sides) (j : ℕ) → IsWithinReach root s → reach s j ≤ reach root j
-reach_within root s j within = omega (arith, within.lows j, within.highs j)
-
-widths_within : (root s : Sides) (terms : List Term) → IsWithinReach root s → sum_by (term_width s) terms ≤ sum_by (term_width root) terms
-widths_within root s [] within = omega arith
-widths_within root s (t ∷ terms) within =
-    let here : term_width s t ≤ term_width root t = mul-le-mul_left (unsigned_abs t.coef) (reach_within root s t.col within) in
-    rw (sum_by-cons (term_width s) t terms, sum_by-cons (term_width root) t terms) (omega (arith, here, widths_within root s terms within))
-
--- so a row of a model is ready for it
-pub ready_reach : (n : ℕ) (root s : Sides) (row : Row) → length root.lows ≡ n → IsWithinReach root s → IsRow n root row → IsReady s row
-ready_reach n root s row columns within valid =
-    let known : AreTerms (length s.lows) row.terms = rw (within.columns, columns) valid.terms in
-    record { terms = known; narrow = omega (arith, widths_within root s row.terms within, valid.narrow) }
-
-pub are_ready_reach : (n : ℕ) (root s : Sides) (rows : List Row) → length root.lows ≡ n → IsWithinReach root s → AreRows n root rows → AreReady s rows
-are_ready_reach n root s rows columns within valid = record { each = All-weaker (IsRow n root) (IsReady s) (λ row h. ready_reach n root s row columns within h) rows valid.each }
 
 -- rows of a model have terms of its columns
 pub rows_terms : (n : ℕ) (root : Sides) (rows : List Row) → AreRows n root rows → HaveTerms n rows
@@ -101,7 +82,7 @@ stay_small m cuts s sums j low high new_low new_high d fit kept move =
           let known : k < length all = omega (arith, within, kept.one_each) in
           let row = get_or all k d in
           let valid : IsRow (length m.cols) m.root row = (both_rows (length m.cols) m.root m.rows cuts fit.of_rows fit.of_cuts).each k d known in
-          let ready : IsReady s row = ready_reach (length m.cols) m.root s row fit.box fit.reach valid in
+          let ready : IsReady s row = row_ready (length m.cols) m.root s row fit.box fit.reach valid in
           let sum : unsigned_abs (int_at sums k) ≤ 2 ^ 50 = rw (kept.each k d known) (omega (arith, sum_small s row.terms, ready.narrow)) in
           three_small (int_at sums k) (moved_by low high new_low new_high (coefs_at k (take i column))) (sum_by (part_size r) (coefs_at k column)) (sum_by (part_size r) (coefs_at k (take i column)))
           sum (moved_small r low high new_low new_high (coefs_at k (take i column)) (move_reach m s j low high new_low new_high fit.reach move))
@@ -117,7 +98,6 @@ ends_within_reach m s j low high new_low new_high within move =
     let ends = move_reach m s j low high new_low new_high within move in
     record {
       columns = length-set s.lows j new_low ∙ within.columns;
-      paired = length-set s.highs j new_high ∙ within.paired ∙ sym (length-set s.lows j new_low);
       lows = within_set m.root s.lows j new_low within.lows ends.to_new_low;
       highs = within_set m.root s.highs j new_high within.highs ends.to_new_high;
     }
@@ -131,7 +111,7 @@ sums_moved m cuts s j low high new_low new_high old new fit kept move long chang
       each = λ k d known.
           let terms = (get_or all k d).terms in
           let of_lows : j < length s.lows = omega (arith, move.known, fit.box, fit.reach.columns) in
-          let of_highs : j < length s.highs = omega (arith, of_lows, fit.reach.paired) in
+          let of_highs : j < length s.highs = omega (arith, of_lows, fit.paired) in
           let moved : greatest_activity (with_ends s j new_low new_high) terms ≡ greatest_activity s terms +ℤ moved_by low high new_low new_high (coefs_at j terms) = activity_moved s j new_low new_high terms of_lows of_highs ∙ ap₂ (λ a b. greatest_activity s terms +ℤ moved_by a b new_low new_high (coefs_at j terms)) move.from_low move.from_high in
           changed k (omega (arith, known, kept.one_each)) ∙ ap₂ (λ a cs. a +ℤ moved_by low high new_low new_high cs) (kept.each k d known) (coefs_of_column j all k d known) ∙ sym moved;
     }
@@ -139,7 +119,7 @@ sums_moved m cuts s j low high new_low new_high old new fit kept move long chang
 -- what is kept after a move
 pub kept_moved : (m : ModelParts) (cuts : List Row) (s : Sides) (j : ℕ) (low high new_low new_high : ℤ) (old new : Activities) → IsKept m cuts s old → IsMove m s j low high new_low new_high → new.columns ≡ old.columns → length new.sums ≡ length old.sums → ((k : ℕ) → k < length old.sums → int_at new.sums k ≡ int_at old.sums k +ℤ moved_by low high new_low new_high (coefs_at k (get_or old.columns j []))) → IsKept m cuts (with_ends s j new_low new_high) new
 kept_moved m cuts s j low high new_low new_high old new kept move columns long changed = record {
-  fit = record { of_rows = kept.fit.of_rows; of_cuts = kept.fit.of_cuts; box = kept.fit.box; reach = ends_within_reach m s j low high new_low new_high kept.fit.reach move };
+  fit = record { of_rows = kept.fit.of_rows; of_cuts = kept.fit.of_cuts; box = kept.fit.box; paired = length-set s.highs j new_high ∙ kept.fit.paired ∙ sym (length-set s.lows j new_low); reach = ends_within_reach m s j low high new_low new_high kept.fit.reach move };
   sums = sums_moved m cuts s j low high new_low new_high old.sums new.sums kept.fit kept.sums move long (λ k known. changed k known ∙ ap (λ es. int_at old.sums k +ℤ moved_by low high new_low new_high (coefs_at k es)) (kept_column m cuts s old j kept move.known));
   columns = subst (AreColumns (length m.cols) (m.rows ++ cuts)) (sym columns) kept.columns;
 }

@@ -5,12 +5,9 @@ use Rattle.std.proofs.lemmas.List.{get_or_past}
 use Rattle.std.proofs.lemmas.List.Elements.{All-nil, All-weaker}
 use Rattle.ip_core.specs.Sides.{Sides}
 use Rattle.ip_core.specs.Rows.{IsTerm, AreTerms, IsRow, AreRows, IsMet, AreMet}
-use Rattle.ip_core.specs.declared.limits.TheConstants.{MAX_COLUMNS}
 use Rattle.ip_core.specs.declared.row.Row.{Row}
 use Rattle.ip_core.specs.declared.row_ref.RowRef.{RowRef}
 use Rattle.ip_core.specs.declared.row_ref.RowRef.TheVariants.{Model, Cut}
-use Rattle.ip_core.proofs.RisingColumns.{rising-le_columns}
-use Rattle.row_propagate.specs.Ready.{IsShort, AreShort}
 use Rattle.row_propagate.specs.Replay.{no_row, row_named}
 
 read_cases : {A : Type 0} (P : A → Type 0) (xs : List A) (i : ℕ) (d : A) → All P xs → P d → (i < length xs) ⊎ (length xs ≤ i) → P (get_or xs i d)
@@ -37,7 +34,3 @@ HasTerms n row = AreTerms n row.terms
 pub named_terms : (n : ℕ) (root : Sides) (rows cuts : List Row) (name : RowRef) → AreRows n root rows → AreRows n root cuts → AreTerms n (row_named rows cuts name).terms
 named_terms n root rows cuts name of_rows of_cuts =
     named_holds (HasTerms n) rows cuts name (All-weaker (IsRow n root) (HasTerms n) (λ row h. h.terms) rows of_rows.each) (All-weaker (IsRow n root) (HasTerms n) (λ row h. h.terms) cuts of_cuts.each) (record { each = All-nil (IsTerm n) })
-
--- rows of a model have no more terms than a model may have columns
-pub rows_short : (n : ℕ) (root : Sides) (rows : List Row) → n ≤ MAX_COLUMNS → AreRows n root rows → AreShort rows
-rows_short n root rows few valid = record { each = All-weaker (IsRow n root) IsShort (λ row h. record { few = omega (arith, few, rising-le_columns n row.terms h.terms h.rising) }) rows valid.each }

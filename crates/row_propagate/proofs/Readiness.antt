@@ -5,7 +5,7 @@ use Rattle.ip_core.specs.Boxes.{IsWithin}
 use Rattle.ip_core.specs.Rows.{AreTerms, IsRow, AreRows}
 use Rattle.ip_core.specs.declared.row.Row.{Row}
 use Rattle.ip_core.proofs.NarrowerBoxes.{row_width_narrower}
-use Rattle.row_propagate.specs.Ready.{IsReady, AreReady}
+use Rattle.ip_core.specs.Rows.{IsReady, AreReady}
 
 -- a row that is ready for a box stays ready for a narrower one without empty columns
 pub ready_narrower : (s t : Sides) (row : Row) → IsWithin s t → HasNoEmpty t → IsReady s row → IsReady t row

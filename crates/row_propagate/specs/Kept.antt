@@ -1,9 +1,9 @@
 -- Greatest activities that are kept while columns of a box change, and the columns' entries in the rows.
-use Rattle.std.specs.Prelude.{ℕ, ◌≡◌, ◌≤◌, ◌<◌, ◌+◌, ◌==◌, if◌then◌else◌, List, [], ◌∷◌, ◌++◌, length, map, slice_index_or, slice_set, ℤ, pos, ◌-ℤ◌, ◌*ℤ◌, ◌≤ℤ◌, unsigned_abs}
+use Rattle.std.specs.Prelude.{ℕ, ◌≡◌, ◌≤◌, ◌<◌, ◌+◌, ◌==◌, if◌then◌else◌, List, [], ◌∷◌, ◌++◌, length, map, slice_index_or, slice_set, ℤ, pos, ◌-ℤ◌, ◌*ℤ◌, ◌≤ℤ◌}
 use Rattle.std.specs.Int.{int_max}
 use Rattle.ip_core.specs.Numbers.{int_at, int_sum_by}
-use Rattle.ip_core.specs.Sides.{Sides, reach}
-use Rattle.ip_core.specs.Boxes.{greatest_activity}
+use Rattle.ip_core.specs.Sides.{Sides}
+use Rattle.ip_core.specs.Boxes.{IsWithinReach, greatest_activity}
 use Rattle.ip_core.specs.Rows.{AreRows}
 use Rattle.ip_core.specs.declared.model.ModelParts.{ModelParts}
 use Rattle.ip_core.specs.declared.row.Row.{Row}
@@ -31,7 +31,8 @@ pub record AreColumns (n : ℕ) (rows : List Row) (columns : List (List Term)) :
 
 -- each column has gained its entries in a row of number i
 pub record HasRowAdded (i : ℕ) (terms : List Term) (old new : List (List Term)) : Type 0 where
-  pub each : (j : ℕ) → slice_index_or new j [] ≡ slice_index_or old j [] ++ map (entry i) (coefs_at j terms)
+  pub each : (j : ℕ) →
+      slice_index_or new j [] ≡ slice_index_or old j [] ++ map (entry i) (coefs_at j terms)
 
 -- each row's greatest activity over the box
 pub record AreSums (rows : List Row) (s : Sides) (sums : List ℤ) : Type 0 where
@@ -39,18 +40,12 @@ pub record AreSums (rows : List Row) (s : Sides) (sums : List ℤ) : Type 0 wher
   pub each : (k : ℕ) (other : Row) → k < length rows →
       int_at sums k ≡ greatest_activity s (slice_index_or rows k other).terms
 
--- the box has the columns of the root box, and no end of a column is further from 0 than the root box reaches there
-pub record IsWithinReach (root s : Sides) : Type 0 where
-  pub columns : length s.lows ≡ length root.lows
-  pub paired : length s.highs ≡ length s.lows
-  pub lows : (j : ℕ) → unsigned_abs (int_at s.lows j) ≤ reach root j
-  pub highs : (j : ℕ) → unsigned_abs (int_at s.highs j) ≤ reach root j
-
 -- the rows of a model and then cuts, each of whose columns rise, and a box that reaches no further than the root box
 pub record AreKeepable (m : ModelParts) (cuts : List Row) (s : Sides) : Type 0 where
   pub of_rows : AreRows (length m.cols) m.root m.rows
   pub of_cuts : AreRows (length m.cols) m.root cuts
   pub box : length m.root.lows ≡ length m.cols
+  pub paired : length s.highs ≡ length s.lows
   pub reach : IsWithinReach m.root s
 
 -- what is kept is that of the model's rows, then the cuts, over the box
@@ -64,7 +59,8 @@ abbrev pub with_ends : Sides → ℕ → ℤ → ℤ → Sides
 with_ends s j low high = record { lows = slice_set s.lows j low; highs = slice_set s.highs j high }
 
 -- a column of the box goes from its ends to others, which lie in the root box and aren't crossed
-pub record IsMove (m : ModelParts) (s : Sides) (j : ℕ) (low high new_low new_high : ℤ) : Type 0 where
+pub record IsMove (m : ModelParts) (s : Sides) (j : ℕ) (low high new_low new_high : ℤ)
+    : Type 0 where
   pub known : j < length m.cols
   pub from_low : int_at s.lows j ≡ low
   pub from_high : int_at s.highs j ≡ high

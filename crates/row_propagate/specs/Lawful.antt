@@ -35,7 +35,8 @@ pub record IsAfter (rows cuts : List Row) (start s : Sides) (steps : List Tighte
 -- a box that came from another by lawful steps is followed by one that came from it by those listed then
 pub record IsReplayed (rows cuts : List Row) (old : Sides) (old_steps : List Tighten) (new : Sides)
     (new_steps : List Tighten) : Type 0 where
-  pub from : (start : Sides) → IsAfter rows cuts start old old_steps → IsAfter rows cuts start new new_steps
+  pub from : (start : Sides) → IsAfter rows cuts start old old_steps →
+      IsAfter rows cuts start new new_steps
 
 -- there is a row of this name, and it conflicts on the box, which has no empty column
 pub record IsConflictAt (rows cuts : List Row) (s : Sides) (name : RowRef) : Type 0 where

@@ -1,4 +1,3 @@
-pub mod Ready
 pub mod Rounding
 pub mod Passes
 pub mod Replay

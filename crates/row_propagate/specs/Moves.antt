@@ -23,9 +23,12 @@ pub record AreEntries (n : ℕ) (column : List Term) : Type 0 where
   pub each : All (λ (t : Term). t.col < n) column
 
 -- each sum stays small while those of a column's entries change, one entry after another
-pub record StaySmall (low high new_low new_high : ℤ) (sums : List ℤ) (column : List Term) : Type 0 where
+pub record StaySmall (low high new_low new_high : ℤ) (sums : List ℤ) (column : List Term)
+    : Type 0 where
   pub each : (i k : ℕ) → k < length sums →
-      unsigned_abs (int_at sums k +ℤ moved_by low high new_low new_high (coefs_at k (take i column))) ≤ 2 ^ 52
+      unsigned_abs
+      (int_at sums k +ℤ moved_by low high new_low new_high (coefs_at k (take i column)))
+      ≤ 2 ^ 52
 
 -- the terms of each row are those of a model with n columns
 pub record HaveTerms (n : ℕ) (rows : List Row) : Type 0 where

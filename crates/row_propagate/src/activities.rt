@@ -1,12 +1,12 @@
 ghost use Rattle.std.specs.Prelude.{◌≡◌, ◌++◌, ◌<◌, ◌≤◌, ◌^◌, [], length, slice_index_or, OnOk, IfOk};
-ghost use Rattle.ip_core.specs.Boxes.{greatest_activity as greatest_activity_of};
+ghost use Rattle.ip_core.specs.Boxes.{IsWithinReach, greatest_activity as greatest_activity_of};
 ghost use Rattle.ip_core.specs.Numbers.{int_at};
 ghost use Rattle.ip_core.specs.Rows.{AreRows};
 ghost use Rattle.ip_core.specs.Seq.{Seq};
 ghost use Rattle.ip_core.specs.Sides.{Sides};
 ghost use Rattle.ip_core.specs.declared.model.ModelParts.{ModelParts};
 ghost use Rattle.ip_core.specs.declared.row.Row.{Row as RowValue};
-ghost use Rattle.row_propagate.specs.Kept.{AreColumns, AreKeepable, AreSums, IsKept, IsMovable, IsMove, IsWithinReach, with_ends};
+ghost use Rattle.row_propagate.specs.Kept.{AreColumns, AreKeepable, AreSums, IsKept, IsMovable, IsMove, with_ends};
 ghost use Rattle.row_propagate.specs.Replay.{no_row};
 
 use crate::columns::columns_of;
@@ -44,7 +44,7 @@ impl Activities {
         let parts = model.parts();
         let rows = parts.rows.as_slice();
         let sums = sums_of(alloc, rows, cuts, bounds)?;
-        let columns = columns_of(alloc, parts.cols.len(), rows, cuts)?;
+        let columns = columns_of(alloc, bounds.lows().len(), rows, cuts)?;
         Ok(Activities { sums, columns })
     }
 

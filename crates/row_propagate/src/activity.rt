@@ -1,25 +1,10 @@
-ghost use Rattle.std.specs.Prelude.{◌≡◌, ◌≤◌, ◌<◌, ◌*ℤ◌, length, sum_by, unsigned_abs};
-ghost use Rattle.ip_core.specs.Numbers.{int_at};
+ghost use Rattle.std.specs.Prelude.{◌≡◌, ◌≤◌, ◌<◌, length, sum_by, unsigned_abs};
 ghost use Rattle.ip_core.specs.Rows.{AreTerms, term_width};
-ghost use Rattle.ip_core.specs.Boxes.{greatest_activity as greatest_activity_of, greatest_part as greatest_part_of};
-ghost use Rattle.row_propagate.specs.Ready.{IsReady};
+ghost use Rattle.ip_core.specs.Rows.{IsReady};
 ghost use Rattle.ip_core.specs.Rows.{coefficient as coefficient_of, own_coefficient as own_coefficient_of};
 ghost use Rattle.row_propagate.specs.Rounding.{others_activity as others_activity_of, other_part as other_part_of, remainder as remainder_of};
 
-use ip_core::{Bounds, MAX_WIDTH, Row, Term};
-
-/// The greatest activity of terms over the box.
-pub fn greatest_activity(terms: &[Term], bounds: &Bounds) -> i64
-    requires known { AreTerms (length bounds.now.lows) terms.now }
-    requires narrow { sum_by (term_width bounds.now) terms.now ≤ MAX_WIDTH }
-    ensures { result ≡ greatest_activity_of bounds.now terms.now }
-{
-    let mut sum = 0;
-    for term in terms {
-        sum += greatest_part(term, bounds);
-    }
-    sum
-}
+use ip_core::{Bounds, MAX_WIDTH, Row, Term, greatest_part};
 
 /// The greatest activity of the terms at other columns.
 fn others_activity(terms: &[Term], bounds: &Bounds, col: u32) -> i64
@@ -56,17 +41,6 @@ pub fn coefficient(terms: &[Term], col: u32) -> i64
     sum
 }
 
-/// The most that a term adds over the box.
-fn greatest_part(term: &Term, bounds: &Bounds) -> i64
-    requires known { term.now.col < length bounds.now.lows }
-    requires narrow { term_width bounds.now term.now ≤ MAX_WIDTH }
-    ensures { result ≡ greatest_part_of bounds.now term.now }
-{
-    let low = product(term, bounds.lows());
-    let high = product(term, bounds.highs());
-    low.max(high)
-}
-
 /// The most that a term adds, and nothing where it stands at the column.
 fn other_part(term: &Term, bounds: &Bounds, col: u32) -> i64
     requires known { term.now.col < length bounds.now.lows }
@@ -85,13 +59,4 @@ fn own_coefficient(term: &Term, col: u32) -> i64
     ensures { result ≡ own_coefficient_of col term.now }
 {
     if term.col == col { term.coef } else { 0 }
-}
-
-/// A term's coefficient times an end of its column.
-fn product(term: &Term, ends: &[i64]) -> i64
-    requires known { term.now.col < length ends.now }
-    requires narrow { unsigned_abs (term.now.coef *ℤ int_at ends.now term.now.col) ≤ MAX_WIDTH }
-    ensures { result ≡ term.now.coef *ℤ int_at ends.now term.now.col }
-{
-    term.coef * ends[term.col as usize]
 }

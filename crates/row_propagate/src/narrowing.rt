@@ -1,5 +1,5 @@
 ghost use Rattle.std.specs.Prelude.{◌≡◌, ◌≢◌, ◌<◌, length, IfSome};
-ghost use Rattle.row_propagate.specs.Ready.{IsReady};
+ghost use Rattle.ip_core.specs.Rows.{IsReady};
 ghost use Rattle.row_propagate.specs.Rounding.{narrowed, narrower_high as narrower_high_of, narrower_low as narrower_low_of, narrower_bound as narrower_bound_of, tightening_of};
 
 use crate::activity::{coefficient, remainder};

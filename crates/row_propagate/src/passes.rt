@@ -1,13 +1,12 @@
 ghost use Rattle.std.specs.Prelude.{◌≡◌, ◌≢◌, [], ◌≤◌, ◌<◌, ◌^◌, length, IfOk, OnOk};
 ghost use Rattle.ip_core.specs.Boxes.{IsWithin};
-ghost use Rattle.ip_core.specs.Models.{term_count as term_count_of};
 ghost use Rattle.ip_core.specs.Rows.{AreRows};
 ghost use Rattle.ip_core.specs.Sides.{HasNoEmpty};
 ghost use Rattle.ip_core.specs.declared.row.Row.{Row as RowValue};
 ghost use Rattle.ip_core.specs.Seq.{Seq};
 ghost use Rattle.row_propagate.specs.Passes.{after_column, after_columns, after_pass, after_passes, after_row, after_rows, counted_of, emptied, name_of, open_run, propagated, run_of};
 ghost use Rattle.row_propagate.specs.Points.{HasMetPoints, HasNoMetPoint};
-ghost use Rattle.row_propagate.specs.Ready.{AreReady, AreShort, IsReady};
+ghost use Rattle.ip_core.specs.Rows.{AreReady, IsReady};
 ghost use Rattle.row_propagate.specs.Replay.{AreNamed, IsNamed, replayed, row_named};
 ghost use Rattle.row_propagate.specs.Lawful.{AreLawfulSteps, IsCause, IsReplayed};
 ghost use Rattle.row_propagate.specs.declared.outcome.Outcome.TheVariants.{Open};
@@ -16,7 +15,7 @@ use crate::narrowing::narrower_bound;
 use crate::outcome::{Outcome, PassRun};
 use crate::row_kind::RowKind;
 use crate::single::conflict;
-use ip_core::{Bounds, List, Model, OutOfMemory, Row, RowRef, Tighten};
+use ip_core::{Bounds, List, Model, OutOfMemory, Row, RowRef, Tighten, term_count};
 use std::alloc::Global;
 
 /// The most passes that are begun.
@@ -192,20 +191,6 @@ fn run_passes(
         }
     }
     Ok((Outcome::Open, MAX_PASSES))
-}
-
-/// The number of terms of rows.
-fn term_count(rows: &[Row]) -> u64
-    requires few { length rows.now ≤ 2 ^ 30 }
-    requires short { AreShort rows.now }
-    ensures value { result ≡ term_count_of rows.now }
-    ensures small { result ≤ 2 ^ 42 }
-{
-    let mut count = 0;
-    for row in rows {
-        count += row.terms.len() as u64;
-    }
-    count
 }
 
 /// Passes over the model's rows and then the cuts: each row that doesn't conflict tightens its columns, and passes go on

@@ -1,12 +1,11 @@
 ghost use Rattle.std.specs.Prelude.{◌≡◌, ◌↔◌, ◌<◌, length, IsTrue, None};
 ghost use Rattle.ip_core.specs.Boxes.{IsConflict, IsWithin};
 ghost use Rattle.row_propagate.specs.Points.{HasNoRowPoint, HasRowPoints};
-ghost use Rattle.row_propagate.specs.Ready.{IsReady};
+ghost use Rattle.ip_core.specs.Rows.{IsReady};
 ghost use Rattle.row_propagate.specs.Rounding.{tightened, tightening};
 
-use crate::activity::greatest_activity;
 use crate::narrowing::narrower_bound;
-use ip_core::{Bounds, Row, RowRef, Tighten};
+use ip_core::{Bounds, Row, RowRef, Tighten, greatest_activity};
 
 /// Whether the row's greatest activity over the box is below its `least`, so that no point of the box meets it.
 /// It takes no memory.
@@ -15,7 +14,7 @@ pub fn conflict(row: &Row, bounds: &Bounds) -> bool
     ensures value { IsTrue result ↔ IsConflict bounds.now row.now }
     ensures none { IsTrue result → HasNoRowPoint row.now bounds.now }
 {
-    greatest_activity(row.terms.as_slice(), bounds) < row.least
+    greatest_activity(row, bounds) < row.least
 }
 
 /// Applies the bound that the row gives for one of its columns, rounded to whole numbers. None comes exactly where this

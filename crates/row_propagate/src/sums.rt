@@ -4,10 +4,9 @@ ghost use Rattle.ip_core.specs.Seq.{Seq};
 ghost use Rattle.ip_core.specs.declared.row.Row.{Row as RowValue};
 ghost use Rattle.row_propagate.specs.Kept.{AreSums, coefs_at, greatest_product as greatest_product_of, moved_by};
 ghost use Rattle.row_propagate.specs.Moves.{AreEntries, AreNarrowMoves, IsNarrowMove, StaySmall};
-ghost use Rattle.row_propagate.specs.Ready.{AreReady};
+ghost use Rattle.ip_core.specs.Rows.{AreReady};
 
-use crate::activity::greatest_activity;
-use ip_core::{Bounds, List, MAX_WIDTH, OutOfMemory, Row, Term};
+use ip_core::{Bounds, List, MAX_WIDTH, OutOfMemory, Row, Term, greatest_activity};
 use std::alloc::Global;
 
 /// The greatest activity over the box of each row and then of each cut.
@@ -34,7 +33,7 @@ fn add_sums(sums: &mut List<i64>, rows: &[Row], bounds: &Bounds) -> Result<(), O
         AreSums (before ++ rows.now) bounds.now sums.new) }
 {
     for row in rows {
-        sums.push(greatest_activity(row.terms.as_slice(), bounds))?;
+        sums.push(greatest_activity(row, bounds))?;
     }
     Ok(())
 }

@@ -2,9 +2,9 @@ use Rattle.std.proofs.Common.{◌≡◌, ◌∙◌, ℕ, ◌+◌, ◌*◌, lengt
 use Rattle.ip_core.specs.Models.{term_count}
 use Rattle.ip_core.specs.declared.model.ModelParts.{ModelParts}
 use Rattle.row_propagate.specs.Passes.{Propagated, after_passes, counted_of, open_run, run_of}
-use Rattle.row_propagate.specs.Ready.{AreReady, AreShort}
+use Rattle.ip_core.specs.Rows.{AreReady, AreShort}
 use Rattle.row_propagate.specs.Lawful.{AreLawfulSteps}
-use Rattle.row_propagate.proofs.Named.{rows_short}
+use Rattle.ip_core.proofs.RisingColumns.{rows_short}
 use Rattle.row_propagate.proofs.Readiness.{are_ready_within}
 use Rattle.row_propagate.proofs.Propagating.{propagated_empty, propagated_solid, empty_caused, replayed_all, box_keeps, none_met, run_caused}
 use Rattle.row_propagate.proofs.passes.propagate.Goals as goal

@@ -1,7 +1,7 @@
 use Rattle.std.proofs.Common.{◌≡◌, ◌∙◌, ◌+◌, drop, sym, ap, subst}
 use Rattle.ip_core.proofs.NarrowerBoxes.{within_both}
 use Rattle.row_propagate.specs.Passes.{after_row, after_rows, name_of, open_run, run_of}
-use Rattle.row_propagate.specs.Ready.{IsReady}
+use Rattle.ip_core.specs.Rows.{IsReady}
 use Rattle.row_propagate.proofs.Readiness.{ready_narrower}
 use Rattle.row_propagate.proofs.Going.{open_is, go_open, rows_next, named_row, replayed_both}
 use Rattle.row_propagate.proofs.passes.visit_rows.Goals as goal

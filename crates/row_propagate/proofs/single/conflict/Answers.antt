@@ -12,6 +12,6 @@ returns-clause-none c =
       none = λ x long inside met.
           let fits : FitsSigned w64 row.least = search rules in
           let below = below_holds c.greatest_activity.result row.least (record { sfits = c.greatest_activity.type_inv }) fits holds in
-          let conflict : IsConflict s row = record { below = rw (c.greatest_activity.ensures, c.as_slice.ensures) at below } in
+          let conflict : IsConflict s row = record { below = rw c.greatest_activity.ensures.value at below } in
           conflict_meets_none (length s.lows) s row x c.requires.terms long inside conflict met;
     }

@@ -1,6 +1,5 @@
 use Rattle.std.proofs.Common.{◌∙◌, [], ◌∷◌, ◌++◌, FitsSigned, w64, sym, ap}
 use Rattle.std.proofs.lemmas.Int.{to_z-of_z}
-use Rattle.ip_core.specs.Boxes.{greatest_activity}
 use Rattle.row_propagate.proofs.Summing.{sums_more, sums_start}
 use Rattle.row_propagate.proofs.sums.add_sums.Goals as goal
 
@@ -11,4 +10,4 @@ pub loop-row-preserved : goal.loop-row-preserved
 loop-row-preserved c =
     let fits : FitsSigned w64 c.greatest_activity.result = record { sfits = c.greatest_activity.type_inv } in
     let pushed = c.in_ok-push.ensures.ok ∙ ap (λ z. c.loop-row.sums ++ z ∷ []) (to_z-of_z w64 c.greatest_activity.result fits) in
-    λ before kept. sums_more before c.args.rows.now c.loop-row.row-index c.row-item.result c.args.bounds.now c.loop-row.sums _ c.greatest_activity.result c.loop-row-test.true c.row-item.is (c.greatest_activity.ensures ∙ ap (greatest_activity c.args.bounds.now) c.as_slice.ensures) pushed (c.loop-row.invariant before kept)
+    λ before kept. sums_more before c.args.rows.now c.loop-row.row-index c.row-item.result c.args.bounds.now c.loop-row.sums _ c.greatest_activity.result c.loop-row-test.true c.row-item.is c.greatest_activity.ensures.value pushed (c.loop-row.invariant before kept)
