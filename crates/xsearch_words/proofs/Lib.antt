@@ -1,3 +1,5 @@
 pub mod Examples
 pub mod Keys
+pub mod PieceWrites
 pub mod Risen
+pub mod WholeReads

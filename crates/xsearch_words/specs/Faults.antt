@@ -4,8 +4,8 @@ use Rattle.xsearch_words.specs.declared.fault.LastFault.{LastFault}
 use Rattle.xsearch_words.specs.declared.fault.FaultLog.{FaultLog}
 
 -- one more, but a count stands still at 2^64 - 1
-abbrev pub counted_up : ℕ → ℕ
-counted_up n = min (n + 1) (2 ^ 64 - 1)
+abbrev pub next_count : ℕ → ℕ
+next_count n = min (n + 1) (2 ^ 64 - 1)
 
 -- A count has risen. One that stands at 2^64 - 1, where it can't rise, counts as risen.
 pub record HasRisen (old new : ℕ) : Type 0 where
@@ -25,8 +25,8 @@ abbrev pub no_faults : FaultLog
 no_faults = record { count = 0; last = None }
 
 -- the log after one more fault
-abbrev pub reported : FaultLog → LastFault → FaultLog
-reported log fault = record { count = counted_up log.count; last = Some fault }
+abbrev pub log_with : FaultLog → LastFault → FaultLog
+log_with log fault = record { count = next_count log.count; last = Some fault }
 
 -- the log shows that a call failed with this fault
 abbrev pub ShowsFailure : FaultLog → FaultLog → LastFault → Type 0

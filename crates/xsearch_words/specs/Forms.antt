@@ -20,7 +20,8 @@ name_at place words = slice_get (names words) place
 
 -- the value that a word gives the key: what follows `--key=` in it
 abbrev pub value_in : Key → List ℕ → Option (List ℕ)
-value_in key word = if starts_with nat_eq word (front key) then Some (drop (length (front key)) word) else None
+value_in key word = if starts_with nat_eq word (front key)
+    then Some (drop (length (front key)) word) else None
 
 -- the word gives the key a value
 abbrev pub gives_value : List ℕ → Key → Bool
@@ -45,4 +46,5 @@ is_single words key = nat_le (length (values key words)) 1
 -- The words have the command's form: each is a name or gives one of its keys a value, there are as many names as it has,
 -- and each of its keys has at most one value.
 abbrev pub has_form : Command → List (List ℕ) → Bool
-has_form command words = list_all (is_known (keys_of command)) words && length (names words) == name_count command && list_all (is_single words) (keys_of command)
+has_form command words = list_all (is_known (keys_of command)) words && length (names words) ==
+    name_count command && list_all (is_single words) (keys_of command)

@@ -3,8 +3,8 @@ use Rattle.std.specs.Prelude.{ℕ, ◌≡◌, ◌≤◌, ◌-◌, ◌^◌, ⊤, 
 use Rattle.xsearch_words.specs.Commands.{command_of}
 use Rattle.xsearch_words.specs.Forms.{has_form, is_name, name_at, value}
 use Rattle.xsearch_words.specs.Numbers.{number_between, optional_number}
-use Rattle.xsearch_words.specs.Options.{given}
-use Rattle.xsearch_words.specs.Tunes.{IsTune, given_tune}
+use Rattle.xsearch_words.specs.Options.{when_some}
+use Rattle.xsearch_words.specs.Tunes.{IsTune, tune_in}
 use Rattle.xsearch_words.specs.declared.command.Command.{Command}
 use Rattle.xsearch_words.specs.declared.command.Command.TheVariants as command
 use Rattle.xsearch_words.specs.declared.command.Key.TheVariants.{DefaultUpper}
@@ -17,14 +17,14 @@ use Rattle.xsearch_words.specs.declared.job.SolveJob.{SolveJob}
 -- `MODEL [--tasks=N] [--work=N] [--store=N] [--default-upper=N]` after `solve` or `alone`
 abbrev pub solve_job : List (List ℕ) → Option SolveJob
 solve_job words =
-    given (name_at 0 words) (λ model.
-    given (given_tune words) (λ tune.
-    given (optional_number 0 (2 ^ 31) (value DefaultUpper words)) (λ default_upper.
+    when_some (name_at 0 words) (λ model.
+    when_some (tune_in words) (λ tune.
+    when_some (optional_number 0 (2 ^ 31) (value DefaultUpper words)) (λ default_upper.
     Some (record { model = model; tune = tune; default_upper = default_upper }))))
 
 -- `gen NUMBER`
 abbrev pub gen_number : List (List ℕ) → Option ℕ
-gen_number words = given (name_at 0 words) (number_between 0 (2 ^ 64 - 1))
+gen_number words = when_some (name_at 0 words) (number_between 0 (2 ^ 64 - 1))
 
 -- what words of the command's form ask
 abbrev pub command_job : Command → List (List ℕ) → Option Job
@@ -36,7 +36,8 @@ command_job command.Gen words = option_map Gen (gen_number words)
 -- what the words ask: the first is the command, and the others have its form
 abbrev pub job : List (List ℕ) → Option Job
 job [] = None
-job (first ∷ words) = given (command_of first) (λ command. if has_form command words then command_job command words else None)
+job (first ∷ words) = when_some (command_of first)
+    (λ command. if has_form command words then command_job command words else None)
 
 -- the words ask this
 abbrev pub IsJobOf : List (List ℕ) → Job → Type 0

@@ -12,6 +12,7 @@ pub mod Options
 pub mod Shelf
 pub mod Sink
 pub mod StdoutSink
+pub mod Streams
 pub mod SureShelf
 pub mod SureSink
 pub mod Tunes

@@ -2,7 +2,7 @@
 use Rattle.std.specs.Prelude.{ℕ, ◌≤◌, ◌*◌, ◌/◌, ◌^◌, nat_le, if◌then◌else◌, List, Option, Some, None}
 use Rattle.xsearch_words.specs.Forms.{value}
 use Rattle.xsearch_words.specs.Numbers.{number_or}
-use Rattle.xsearch_words.specs.Options.{given}
+use Rattle.xsearch_words.specs.Options.{when_some}
 use Rattle.xsearch_words.specs.declared.command.Key.TheVariants.{Tasks, Work, Store}
 use Rattle.xsearch_words.specs.declared.tune.Tune.{Tune}
 
@@ -20,12 +20,13 @@ default_store tasks = 2 ^ 22 / tasks
 
 -- so many tasks with this work and store for each, where their stores together are at most 2^22
 abbrev pub tune_of : ℕ → ℕ → ℕ → Option Tune
-tune_of tasks work store = if nat_le (tasks * store) (2 ^ 22) then Some (record { tasks = tasks; work = work; store = store }) else None
+tune_of tasks work store = if nat_le (tasks * store) (2 ^ 22)
+    then Some (record { tasks = tasks; work = work; store = store }) else None
 
 -- `[--tasks=N] [--work=N] [--store=N]`
-abbrev pub given_tune : List (List ℕ) → Option Tune
-given_tune words =
-    given (number_or 4 1 64 (value Tasks words)) (λ tasks.
-    given (number_or 200000000 0 (10 ^ 12) (value Work words)) (λ work.
-    given (number_or (default_store tasks) 64 (2 ^ 22) (value Store words)) (λ store.
+abbrev pub tune_in : List (List ℕ) → Option Tune
+tune_in words =
+    when_some (number_or 4 1 64 (value Tasks words)) (λ tasks.
+    when_some (number_or 200000000 0 (10 ^ 12) (value Work words)) (λ work.
+    when_some (number_or (default_store tasks) 64 (2 ^ 22) (value Store words)) (λ store.
     tune_of tasks work store)))

@@ -33,7 +33,7 @@ pub(crate) struct FaultLog {
 }
 
 impl FaultLog {
-    ghost use Rattle.xsearch_words.specs.Faults.{no_faults, reported, HasFailed};
+    ghost use Rattle.xsearch_words.specs.Faults.{no_faults, log_with, HasFailed};
 
     /// A log without faults.
     pub(crate) fn new() -> FaultLog
@@ -47,7 +47,7 @@ impl FaultLog {
 
     /// Keeps one more fault.
     pub(crate) fn report(&mut self, fault: LastFault)
-        ensures log { self.new ≡ reported self.old fault }
+        ensures log { self.new ≡ log_with self.old fault }
         ensures risen { HasFailed self.old.count self.new.count self.new.last fault }
     {
         self.count = self.count.saturating_add(1);

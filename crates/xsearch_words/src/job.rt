@@ -6,7 +6,7 @@ ghost use Rattle.xsearch_words.specs.Forms.{is_name, name_at as name_at_of};
 use crate::command::{Command, Key};
 use crate::form::{has_form, name_at, value};
 use crate::number::{number_between, optional_number};
-use crate::tune::given_tune;
+use crate::tune::tune_in;
 use crate::{JobError, Tune};
 use ip_core::{OutOfMemory, Text};
 use std::alloc::Global;
@@ -53,7 +53,8 @@ pub struct SolveJob {
 /// 2^64 - 1. `Words` is answered exactly where the words ask nothing by these rules, unless memory
 /// runs out.
 pub fn settings(alloc: Global, words: &[String]) -> Result<Job, JobError>
-    ensures answer { MatchResult result (IsJobOf (map string_bytes words.now)) (IsJobCause (map string_bytes words.now)) }
+    ensures answer { MatchResult result (IsJobOf (map string_bytes words.now))
+        (IsJobCause (map string_bytes words.now)) }
     ensures kept { IfOk result IsJob }
 {
     let [first, words @ ..] = words else {
@@ -95,7 +96,7 @@ fn solve_job(alloc: Global, words: &[String]) -> Result<Option<SolveJob>, OutOfM
     let Some(model) = file_name(alloc, words)? else {
         return Ok(None);
     };
-    let Some(tune) = given_tune(words) else {
+    let Some(tune) = tune_in(words) else {
         return Ok(None);
     };
     let Some(default_upper) = optional_number(0, MAX_UPPER, value(Key::DefaultUpper, words)) else {

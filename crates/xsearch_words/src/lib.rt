@@ -19,6 +19,7 @@ mod number;
 mod shelf;
 mod sink;
 mod stdout_sink;
+mod streams;
 mod sure_shelf;
 mod sure_sink;
 mod tune;

@@ -3,7 +3,7 @@ ghost use Rattle.std.specs.Option.{option_copied};
 ghost use Rattle.xsearch_words.specs.Faults.{ShowsFailure, failed_read, no_faults};
 ghost use Rattle.xsearch_words.specs.Files.{SetsFile, contents, no_files};
 ghost use Rattle.xsearch_words.specs.Calls.{after_call, no_calls};
-ghost use Rattle.xsearch_words.specs.Shelf.{log_after_read, read_failed};
+ghost use Rattle.xsearch_words.specs.Shelf.{HasNoFault, log_after_read, read_failed};
 
 use crate::calls::Calls;
 use crate::fault::FaultLog;
@@ -70,13 +70,9 @@ impl MemoryShelf {
 }
 
 impl Shelf for MemoryShelf {
-    ghost use Rattle.xsearch_words.specs.MemoryShelf.{calls_of, faults_of, files_of, read_fails};
+    ghost use Rattle.xsearch_words.specs.MemoryShelf.{calls_of, faults_of, files_of, read_fails, state_of};
 
-    ghost told = { λ shelf. Some (files_of shelf) };
-
-    ghost faults = { λ shelf. (faults_of shelf).count };
-
-    ghost last_fault = { λ shelf. (faults_of shelf).last };
+    ghost state = { state_of };
 
     fn read(&mut self, alloc: Global, name: &Text, most: u64) -> Result<List<u8>, ShelfError>
         ensures short { IfOk result (λ bytes. length bytes ≤ most) }
@@ -85,7 +81,9 @@ impl Shelf for MemoryShelf {
             most < length (contents (files_of self.old) name.now) }
         ensures failed { IsErrOf result ShelfError.Failed →
             ShowsFailure (faults_of self.old) (faults_of self.new) (failed_read name.now) }
-        ensures told { files_of self.new ≡ files_of self.old }
+        ensures files { files_of self.new ≡ files_of self.old }
+        ensures quiet { ¬ IsErrOf result ShelfError.Failed →
+            HasNoFault (state_of self.old) (state_of self.new) }
         ensures count { (faults_of self.old).count ≤ (faults_of self.new).count }
 
         // Want of memory aside, it fails exactly where its call is to fail or the name has no file.

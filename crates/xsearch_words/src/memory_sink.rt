@@ -49,11 +49,9 @@ impl MemorySink {
 }
 
 impl Sink for MemorySink {
-    ghost use Rattle.xsearch_words.specs.MemorySink.{bytes_of, calls_of, faults_of};
+    ghost use Rattle.xsearch_words.specs.MemorySink.{bytes_of, calls_of, faults_of, state_of};
 
-    ghost told = { λ sink. Some (bytes_of sink) };
-
-    ghost faults = { faults_of };
+    ghost state = { state_of };
 
     fn put(&mut self, _alloc: Global, bytes: &[u8]) -> Result<(), WriteError>
         ensures ok { OnOk result (bytes_of self.new ≡ bytes_of self.old ++ bytes.now) }
@@ -62,6 +60,8 @@ impl Sink for MemorySink {
         ensures front { IsErrOf result WriteError.Failed →
             GrowsByFront (Some (bytes_of self.old)) (Some (bytes_of self.new)) bytes.now }
         ensures memory { IsErrOf result WriteError.Memory → bytes_of self.new ≡ bytes_of self.old }
+        ensures quiet { ¬ IsErrOf result WriteError.Failed →
+            faults_of self.new ≡ faults_of self.old }
         ensures count { faults_of self.old ≤ faults_of self.new }
 
         // Want of memory aside, it fails exactly where its call is to fail. Its first bytes go out then.

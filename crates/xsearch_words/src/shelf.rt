@@ -1,7 +1,7 @@
-ghost use Rattle.std.specs.Prelude.{◌≡◌, ℕ, ◌<◌, ◌≤◌, length, Option, IfOk, IfSome, IsErrOf};
-ghost use Rattle.xsearch_words.specs.Faults.{HasFailed, failed_read};
-ghost use Rattle.xsearch_words.specs.Files.{Files, contents};
-ghost use Rattle.xsearch_words.specs.declared.fault.LastFault.{LastFault};
+ghost use Rattle.std.specs.Prelude.{◌≡◌, ◌<◌, ◌≤◌, length, IfOk, IfSome, IsErrOf};
+ghost use Rattle.xsearch_words.specs.Faults.{HasFailed, next_count, failed_read};
+ghost use Rattle.xsearch_words.specs.Files.{contents};
+ghost use Rattle.xsearch_words.specs.Shelf.{HasNoFault, ShelfState};
 
 use crate::ShelfError;
 use ip_core::{List, Text};
@@ -9,26 +9,25 @@ use std::alloc::Global;
 
 /// Files that are read by name.
 pub trait Shelf {
-    /// The files, where the shelf tells them.
-    ghost told: { Self → Option Files };
-
-    /// How many calls have failed. The count stands still at 2^64 - 1.
-    ghost faults: { Self → ℕ };
-
-    /// The call that failed last.
-    ghost last_fault: { Self → Option LastFault };
+    /// What the shelf tells: its files, where it tells them, how many calls were made and how many
+    /// failed, and the one that failed last. The counts stand still at 2^64 - 1.
+    ghost state: { Self → ShelfState };
 
     /// Reads the file of a name, which is to have at most `most` bytes.
     fn read(&mut self, alloc: Global, name: &Text, most: u64) -> Result<List<u8>, ShelfError>
         ensures short { IfOk result (λ bytes. length bytes ≤ most) }
         ensures bytes { IfOk result (λ bytes.
-            IfSome (told self.old) (λ files. bytes ≡ contents files name.now)) }
+            IfSome (state self.old).files (λ files. bytes ≡ contents files name.now)) }
         ensures too_long { IsErrOf result ShelfError.TooLong →
-            IfSome (told self.old) (λ files. most < length (contents files name.now)) }
+            IfSome (state self.old).files (λ files. most < length (contents files name.now)) }
         ensures failed { IsErrOf result ShelfError.Failed →
-            HasFailed (faults self.old) (faults self.new) (last_fault self.new) (failed_read name.now) }
+            HasFailed (state self.old).faults (state self.new).faults (state self.new).last
+            (failed_read name.now) }
 
-        // No answer changes the files, or what the shelf tells.
-        ensures told { told self.new ≡ told self.old }
-        ensures count { faults self.old ≤ faults self.new };
+        // No answer changes the files, or what the shelf tells of them, and only a failure is a fault.
+        ensures files { (state self.new).files ≡ (state self.old).files }
+        ensures quiet { ¬ IsErrOf result ShelfError.Failed →
+            HasNoFault (state self.old) (state self.new) }
+        ensures count { (state self.old).faults ≤ (state self.new).faults }
+        ensures calls { (state self.new).calls ≡ next_count (state self.old).calls };
 }

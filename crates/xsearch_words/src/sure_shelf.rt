@@ -11,6 +11,7 @@ use std::alloc::Global;
 #[derive(Drop)]
 pub struct SureShelf {
     files: FileMap,
+    calls: u64,
 }
 
 impl SureShelf {
@@ -22,6 +23,7 @@ impl SureShelf {
     {
         SureShelf {
             files: FileMap::new(alloc),
+            calls: 0,
         }
     }
 
@@ -42,15 +44,12 @@ impl SureShelf {
 }
 
 impl Shelf for SureShelf {
-    ghost use Rattle.xsearch_words.specs.SureShelf.{files_of};
+    ghost use Rattle.xsearch_words.specs.SureShelf.{state_of};
 
-    ghost told = { λ shelf. Some (files_of shelf) };
-
-    ghost faults = { λ _. 0 };
-
-    ghost last_fault = { λ _. None };
+    ghost state = { state_of };
 
     fn read(&mut self, alloc: Global, name: &Text, most: u64) -> Result<List<u8>, ShelfError> {
+        self.calls = self.calls.saturating_add(1);
         match self.files.file(name) {
             Some(bytes) => copy_file(alloc, bytes, most),
             None => Ok(List::new(alloc)),

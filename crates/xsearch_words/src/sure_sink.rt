@@ -8,6 +8,7 @@ use std::alloc::Global;
 #[derive(Drop)]
 pub struct SureSink {
     out: Text,
+    calls: u64,
 }
 
 impl SureSink {
@@ -19,6 +20,7 @@ impl SureSink {
     {
         SureSink {
             out: Text::new(alloc),
+            calls: 0,
         }
     }
 
@@ -31,13 +33,12 @@ impl SureSink {
 }
 
 impl Sink for SureSink {
-    ghost use Rattle.xsearch_words.specs.SureSink.{bytes_of};
+    ghost use Rattle.xsearch_words.specs.SureSink.{state_of};
 
-    ghost told = { λ sink. Some (bytes_of sink) };
-
-    ghost faults = { λ _. 0 };
+    ghost state = { state_of };
 
     fn put(&mut self, _alloc: Global, bytes: &[u8]) -> Result<(), WriteError> {
+        self.calls = self.calls.saturating_add(1);
         self.out.extend(bytes)?;
         Ok(())
     }

@@ -1,6 +1,9 @@
 use super::*;
+use crate::streams::{read_opened, read_to_end, write_out};
 use ip_core::{List, OutOfMemory, Text};
 use std::alloc::Global;
+use std::io;
+use std::io::{Error, ErrorKind, Read, Write};
 use std::test::Fail;
 
 fn text(alloc: Global, bytes: &[u8]) -> Result<Text, OutOfMemory> {
@@ -128,6 +131,113 @@ fn a_sure_sink_takes_bytes(rt: HostRuntime) -> Result<(), Fail> {
     let mut sink = SureSink::new(rt.alloc());
     put(&mut sink, rt.alloc(), b"ab")?;
     assert_eq!(rt; sink.bytes(), b"ab".as_slice());
+    Ok(())
+}
+
+/// A reader of a few bytes at a time, which errs after them where it is told to.
+#[derive(Drop)]
+struct Trickle {
+    bytes: &'static [u8],
+    step: usize,
+    errs: bool,
+}
+
+impl Read for Trickle {
+    fn read(&mut self, buf: &mut [u8]) -> io::Result<usize> {
+        let count = self.step.min(buf.len()).min(self.bytes.len());
+        if count == 0 && self.errs {
+            return Err(Error::from(ErrorKind::Other));
+        }
+        for place in 0..count {
+            buf[place] = self.bytes[place];
+        }
+        self.bytes = &self.bytes[count..];
+        Ok(count)
+    }
+}
+
+/// A writer of one byte at a time, which errs once it has no room left.
+#[derive(Drop)]
+struct ByteWriter {
+    out: Text,
+    room: usize,
+}
+
+impl Write for ByteWriter {
+    fn write(&mut self, buf: &[u8]) -> io::Result<usize> {
+        if self.room == 0 || buf.is_empty() {
+            return Err(Error::from(ErrorKind::Other));
+        }
+        match self.out.extend(&buf[..1]) {
+            Ok(()) => {
+                self.room -= 1;
+                Ok(1)
+            }
+            Err(OutOfMemory) => Err(Error::from(ErrorKind::OutOfMemory)),
+        }
+    }
+
+    fn flush(&mut self) -> io::Result<()> {
+        Ok(())
+    }
+}
+
+// How many bytes a reader gives at a time, whether it errs after them, the most bytes that may
+// come, and what is read.
+const READS: [(usize, bool, u64, Result<&[u8], ShelfError>); 7] = [
+    (1, false, 9, Ok(b"abc")),
+    (2, false, 3, Ok(b"abc")),
+    (9, false, 3, Ok(b"abc")),
+    (1, false, 2, Err(ShelfError::TooLong)),
+    (9, false, 0, Err(ShelfError::TooLong)),
+    (1, true, 9, Err(ShelfError::Failed)),
+    (9, true, 3, Err(ShelfError::Failed)),
+];
+
+// The first row whose reader isn't read as it should be.
+fn first_misread(alloc: Global) -> Option<usize> {
+    for (place, &(step, errs, most, want)) in READS.iter().enumerate() {
+        let reader = Trickle {
+            bytes: b"abc",
+            step,
+            errs,
+        };
+        let is_read = match (read_to_end(reader, alloc, most), want) {
+            (Ok(bytes), Ok(want)) => bytes.as_slice() == want,
+            (Err(error), Err(want)) => error == want,
+            _ => false,
+        };
+        if !is_read {
+            return Some(place);
+        }
+    }
+    None
+}
+
+#[test]
+fn readers_are_read_to_their_end(rt: HostRuntime) -> Result<(), Fail> {
+    assert_eq!(rt; first_misread(rt.alloc()), None);
+    let unopened: io::Result<Trickle> = Err(Error::from(ErrorKind::NotFound));
+    let failed = read_opened(unopened, rt.alloc(), 9);
+    assert!(rt; matches!(&failed, Err(ShelfError::Failed)));
+    Ok(())
+}
+
+#[test]
+fn writers_take_all_bytes_or_a_front(rt: HostRuntime) -> Result<(), Fail> {
+    for (room, want, out) in [
+        (9, Ok(()), b"abc".as_slice()),
+        (3, Ok(()), b"abc".as_slice()),
+        (2, Err(WriteError::Failed), b"ab".as_slice()),
+        (0, Err(WriteError::Failed), b"".as_slice()),
+    ] {
+        let mut writer = ByteWriter {
+            out: Text::new(rt.alloc()),
+            room,
+        };
+        assert_eq!(rt; write_out(&mut writer, b"abc"), want);
+        assert_eq!(rt; writer.out.as_slice(), out);
+    }
     Ok(())
 }
 

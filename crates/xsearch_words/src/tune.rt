@@ -1,6 +1,6 @@
 ghost use Rattle.std.specs.Prelude.{◌≡◌, ◌≤◌, ◌*◌, ◌^◌, map, IfSome};
 ghost use Rattle.std.specs.String.{string_bytes};
-ghost use Rattle.xsearch_words.specs.Tunes.{IsTune, default_store as default_store_of, given_tune as given_tune_of, tune_of};
+ghost use Rattle.xsearch_words.specs.Tunes.{IsTune, default_store as default_store_of, tune_in as tune_in_words, tune_of};
 
 use crate::command::Key;
 use crate::form::value;
@@ -58,8 +58,8 @@ impl Tune {
 }
 
 /// How the words set a search to be run, or None where one of the values isn't lawful.
-pub(crate) fn given_tune(words: &[String]) -> Option<Tune>
-    ensures value { result ≡ given_tune_of (map string_bytes words.now) }
+pub(crate) fn tune_in(words: &[String]) -> Option<Tune>
+    ensures value { result ≡ tune_in_words (map string_bytes words.now) }
     ensures kept { IfSome result IsTune }
 {
     let tasks = number_or(DEFAULT_TASKS, 1, MAX_TASKS, value(Key::Tasks, words))?;
