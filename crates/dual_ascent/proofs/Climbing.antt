@@ -2,7 +2,7 @@ use Rattle.std.proofs.Common.{◌≡◌, ℕ, zero, suc, ◌+◌, ◌≤◌, Boo
 use Rattle.std.proofs.lemmas.Int.{ints}
 use Rattle.std.proofs.lemmas.List.{set-get_or}
 use Rattle.dual_ascent.specs.declared.climb.Climb.{Climb}
-use Rattle.dual_ascent.specs.Climbs.{better, first_greatest, changes, trial, after_row, after_rows, after_round, climbed}
+use Rattle.dual_ascent.specs.Climbs.{better, first_greatest, changes, trial, after_row, after_rows, after_round, after_rounds}
 use Rattle.dual_ascent.proofs.Rounds.{counted_round}
 use Rattle.dual_ascent.specs.Laws.{NoRowLowers, NoRoundLowers, RoundsAreFew}
 
@@ -28,7 +28,8 @@ no_row_lowers worth size ys i =
     let kept : worth (set ys i (get_or ys i 0)) ≡ worth ys = ap worth (set-get_or ys i 0) in
     rw (← kept) (first_greatest-le (trial worth ys i) (get_or ys i 0) (changes size (get_or ys i 0)))
 
-rows-le : (worth : List ℕ → ℤ) (size : ℕ) (ys : List ℕ) (n : ℕ) → worth ys ≤ℤ worth (after_rows worth size ys n)
+-- the rows of a round lower nothing
+pub rows-le : (worth : List ℕ → ℤ) (size : ℕ) (ys : List ℕ) (n : ℕ) → worth ys ≤ℤ worth (after_rows worth size ys n)
 unfolding after_rows
 rows-le worth size ys zero = omega (arith, ints)
 rows-le worth size ys (suc n) = int_le_trans (worth ys) (worth (after_rows worth size ys n)) (worth (after_row worth size (after_rows worth size ys n) n)) (rows-le worth size ys n) (no_row_lowers worth size (after_rows worth size ys n) n)
@@ -43,10 +44,10 @@ rounds_choice false worth c d le = le
 
 -- so no rounds lower it
 pub no_round_lowers : NoRoundLowers
-unfolding climbed
+unfolding after_rounds
 no_round_lowers worth zero c = omega (arith, ints)
 no_round_lowers worth (suc n) c =
-    rounds_choice (c.step_size == 0) worth c (climbed worth n (after_round worth c)) (int_le_trans (worth c.mults) (worth (after_round worth c).mults) (worth (climbed worth n (after_round worth c)).mults) (round-le worth c) (no_round_lowers worth n (after_round worth c)))
+    rounds_choice (c.step_size == 0) worth c (after_rounds worth n (after_round worth c)) (int_le_trans (worth c.mults) (worth (after_round worth c).mults) (worth (after_rounds worth n (after_round worth c)).mults) (round-le worth c) (no_round_lowers worth n (after_round worth c)))
 
 few_choice : (b : Bool) (c d : Climb) (n : ℕ) → d.rounds ≤ c.rounds + 1 + n → (if b then c else d).rounds ≤ c.rounds + suc n
 few_choice true c d n le = omega arith
@@ -54,7 +55,7 @@ few_choice false c d n le = omega arith
 
 -- a climb has at most one round for each that it may have
 pub rounds_are_few : RoundsAreFew
-unfolding climbed
+unfolding after_rounds
 rounds_are_few worth zero c = omega arith
 rounds_are_few worth (suc n) c =
-    few_choice (c.step_size == 0) c (climbed worth n (after_round worth c)) n (omega (arith, rounds_are_few worth n (after_round worth c), counted_round worth c))
+    few_choice (c.step_size == 0) c (after_rounds worth n (after_round worth c)) n (omega (arith, rounds_are_few worth n (after_round worth c), counted_round worth c))

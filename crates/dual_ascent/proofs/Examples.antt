@@ -3,7 +3,7 @@ use Rattle.ip_core.specs.Sides.{Sides}
 use Rattle.ip_core.specs.declared.model.ModelParts.{ModelParts}
 use Rattle.ip_core.specs.declared.row.Row.{Row}
 use Rattle.safe_bound.specs.Bounds.{reduced_cost, numerator}
-use Rattle.dual_ascent.specs.Climbs.{first_greatest, changes, after_rows, after_round, climbed}
+use Rattle.dual_ascent.specs.Climbs.{first_greatest, changes, after_rows, after_round, after_rounds}
 use Rattle.dual_ascent.specs.Ascents.{first_step_size, ascent, ascent_work}
 
 -- the box of one column from 0 to `high`
@@ -45,14 +45,14 @@ step_size_held = refl
 
 -- no row: the step size falls from 2,048 to 0 in twelve rounds
 twelve_rounds : ascent (least_x 1 []) [] (box 1) ≡ record { mults = []; step_size = 0; rounds = 12 }
-unfolding ascent climbed after_round after_rows
+unfolding ascent after_rounds after_round after_rows
 twelve_rounds = refl
 
 -- the least of x in 0 to 5 with 2x >= 3: at 512 the reduced cost is 0
 one_row : ascent (least_x 5 (double ∷ [])) [] (box 5) ≡ record { mults = 512 ∷ []; step_size = 0; rounds = 13 }
-unfolding ascent climbed after_round after_rows numerator reduced_cost
+unfolding ascent after_rounds after_round after_rows numerator reduced_cost
 one_row = refl
 
 one_row_work : ascent_work (least_x 5 (double ∷ [])) [] (box 5) ≡ 52
-unfolding ascent climbed after_round after_rows numerator reduced_cost
+unfolding ascent after_rounds after_round after_rows numerator reduced_cost
 one_row_work = refl

@@ -5,3 +5,7 @@ pub mod Rows
 pub mod Candidates
 pub mod RowLengths
 pub mod AscentWork
+pub mod Choices
+pub mod Multipliers
+pub mod LeastBounds
+pub mod PassedPoints

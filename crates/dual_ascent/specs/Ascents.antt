@@ -8,7 +8,7 @@ use Rattle.ip_core.specs.declared.limits.TheConstants.{MAX_COLUMNS}
 use Rattle.safe_bound.specs.declared.limits.TheConstants.{MAX_MULTIPLIER}
 use Rattle.safe_bound.specs.Bounds.{all_rows, numerator}
 use Rattle.dual_ascent.specs.declared.climb.Climb.{Climb}
-use Rattle.dual_ascent.specs.Climbs.{climbed}
+use Rattle.dual_ascent.specs.Climbs.{after_rounds}
 
 -- the greatest absolute value of numbers, and 0 of none
 abbrev pub greatest_size : List ℤ → ℕ
@@ -21,11 +21,15 @@ first_step_size costs = min MAX_MULTIPLIER (1024 * (greatest_size costs + 1))
 
 -- the climb at its beginning: every multiplier is 0
 abbrev pub first_climb : ModelParts → List Row → Climb
-first_climb m cuts = record { mults = replicate (length (all_rows m cuts)) 0; step_size = first_step_size m.costs; rounds = 0 }
+first_climb m cuts = record {
+  mults = replicate (length (all_rows m cuts)) 0;
+  step_size = first_step_size m.costs;
+  rounds = 0;
+}
 
 -- the climb at its end, after at most 64 rounds
 unfoldable pub ascent : ModelParts → List Row → Sides → Climb
-ascent m cuts s = climbed (numerator m cuts s) 64 (first_climb m cuts)
+ascent m cuts s = after_rounds (numerator m cuts s) 64 (first_climb m cuts)
 
 -- the work of a round: one, and three for each term of the rows and cuts
 abbrev pub round_work : ModelParts → List Row → ℕ

@@ -1,4 +1,5 @@
-ghost use Rattle.std.specs.Prelude.{◌≡◌, ◌≤◌, ◌+◌, IfOk};
+ghost use Rattle.std.specs.Prelude.{◌≡◌, ◌≤◌, ◌+◌, ◌^◌, ◌≤ℤ◌, pos, neg_ℤ, IfOk};
+ghost use Rattle.ip_core.specs.Boxes.{least_value};
 ghost use Rattle.safe_bound.specs.Bounds.{bound_point, lagrangian_bound};
 ghost use Rattle.safe_bound.specs.Premises.{AreCuts, AreMultipliers, IsWithinReach};
 ghost use Rattle.dual_ascent.specs.Ascents.{ascent, ascent_work};
@@ -22,8 +23,8 @@ pub struct Ascent {
 
 /// The ascent over a box. Multipliers begin at 0. In a round each row in order takes the first of greatest numerator
 /// among its multiplier, that plus and minus the step size within 0 and 2^40, and 0. A round that changes none halves
-/// the step size; the ascent ends where that is 0, and after 64 rounds. The pulse hears of the work at the end. The only
-/// error is want of memory, of which the pulse hears nothing.
+/// the step size; the ascent ends where that is 0, and after 64 rounds. The pulse hears of each round's work after it, so
+/// of just the work of the ascent. The only error is want of memory, of which the pulse hears nothing.
 pub fn ascend<P: Pulse>(
     alloc: Global,
     model: &Model,
@@ -40,6 +41,9 @@ pub fn ascend<P: Pulse>(
     ensures point { IfOk result (λ a. a.point ≡ bound_point model.now cuts.now bounds.now a.mults) }
     ensures work { IfOk result (λ a. a.work ≡ ascent_work model.now cuts.now bounds.now) }
     ensures multipliers { IfOk result (λ a. AreMultipliers model.now cuts.now a.mults) }
+    ensures least { IfOk result (λ a. least_value model.now bounds.now ≤ℤ a.bound) }
+    ensures limit { IfOk result (λ a. neg_ℤ (pos (2 ^ 50)) ≤ℤ a.bound) }
+    ensures exact { IfOk result (λ a. P.allowance pulse.old ≡ P.allowance pulse.new + a.work) }
     ensures told { P.allowance pulse.old ≤ P.allowance pulse.new + ascent_work model.now cuts.now bounds.now }
     ensures lowered { P.allowance pulse.new ≤ P.allowance pulse.old }
     ensures rest { P.rest pulse.new ≡ P.rest pulse.old }
@@ -48,7 +52,7 @@ pub fn ascend<P: Pulse>(
     let columns = model.parts().cols.len();
     let mut scratch = vec![in alloc; 0; columns]?;
     let mut point = Point::of(List::of(vec![in alloc; 0; columns]?));
-    let climb = final_climb(alloc, model, cuts, bounds, &mut scratch)?;
+    let climb = final_climb(alloc, model, cuts, bounds, &mut scratch, pulse)?;
     let mults = climb.mults;
     let bound = bound(model, cuts, bounds, mults.as_slice(), &mut scratch);
     least_point(
@@ -60,7 +64,6 @@ pub fn ascend<P: Pulse>(
         &mut point,
     );
     let work = climb.rounds * round_work(model, cuts);
-    pulse.tick(work);
     Ok(Ascent {
         mults,
         bound,

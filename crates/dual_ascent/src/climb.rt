@@ -1,12 +1,14 @@
-ghost use Rattle.std.specs.Prelude.{◌≡◌, ◌≤◌, ◌<◌, ◌==◌, not, length, slice_index, IfOk};
+ghost use Rattle.std.specs.Prelude.{◌≡◌, ◌+◌, ◌*◌, ◌≤◌, ◌<◌, ◌==◌, not, length, slice_index, IfOk, OnErr};
 ghost use Rattle.safe_bound.specs.Bounds.{numerator as numerator_of};
 ghost use Rattle.safe_bound.specs.Premises.{AreCuts, AreMultipliers, IsWithinReach};
-ghost use Rattle.dual_ascent.specs.Climbs.{after_round, after_row, after_rows, changes as changes_of, is_same, taken};
-ghost use Rattle.dual_ascent.specs.Ascents.{ascent, first_climb as first_climb_of, first_step_size as first_step_size_of};
+ghost use Rattle.dual_ascent.specs.Climbs.{after_round, after_row, after_rows, changes as changes_of, is_same, next_multiplier};
+ghost use Rattle.dual_ascent.specs.Ascents.{ascent, ascent_work, first_climb as first_climb_of, first_step_size as first_step_size_of, round_work as round_work_of};
 
+use crate::work::round_work;
 use ip_core::{Bounds, List, Model, OutOfMemory, Row};
 use safe_bound::{MAX_MULTIPLIER, numerator};
 use std::alloc::Global;
+use work_stamp::Pulse;
 
 /// The most rounds of a climb.
 const MAX_ROUNDS: u64 = 64;
@@ -19,27 +21,38 @@ pub struct Climb {
     pub rounds: u64,
 }
 
-/// The climb at its end: its step size is 0, or it has had 64 rounds.
-pub fn final_climb(
+/// The climb at its end: its step size is 0, or it has had 64 rounds. The pulse hears of each round's work after it. Want
+/// of memory comes before the first round.
+pub fn final_climb<P: Pulse>(
     alloc: Global,
     model: &Model,
     cuts: &[Row],
     bounds: &Bounds,
     scratch: &mut [i128],
+    pulse: &mut P,
 ) -> Result<Climb, OutOfMemory>
     requires cuts { AreCuts model.now cuts.now }
     requires within { IsWithinReach model.now.root bounds.now }
     requires room { length model.now.cols ≤ length scratch.old }
+    requires ready { P.IsReady pulse.old }
+    requires allowed { ascent_work model.now cuts.now bounds.now ≤ P.allowance pulse.old }
     ensures value { IfOk result (λ c. c ≡ ascent model.now cuts.now bounds.now) }
     ensures multipliers { IfOk result (λ c. AreMultipliers model.now cuts.now c.mults) }
     ensures few { IfOk result (λ c. c.rounds ≤ 64) }
+    ensures told { IfOk result (λ c.
+        P.allowance pulse.new + c.rounds * round_work_of model.now cuts.now ≡ P.allowance pulse.old) }
+    ensures untold { OnErr result (P.allowance pulse.new ≡ P.allowance pulse.old) }
+    ensures rest { P.rest pulse.new ≡ P.rest pulse.old }
+    ensures ready { P.IsReady pulse.new }
 {
     let mut climb = first_climb(alloc, model, cuts)?;
+    let work = round_work(model, cuts);
     for _round in 0..MAX_ROUNDS {
         if climb.step_size == 0 {
             break;
         }
         climb_round(model, cuts, bounds, &mut climb, scratch);
+        pulse.tick(work);
     }
     Ok(climb)
 }
@@ -147,7 +160,7 @@ fn climb_row(
     requires room { length model.now.cols ≤ length scratch.old }
     requires known { row < length mults.old }
     ensures mults { mults.new ≡ after_row (numerator_of model.now cuts.now bounds.now) step_size mults.old row }
-    ensures changed { result ≡ not (taken (numerator_of model.now cuts.now bounds.now) step_size mults.old row ==
+    ensures changed { result ≡ not (next_multiplier (numerator_of model.now cuts.now bounds.now) step_size mults.old row ==
         slice_index mults.old row) }
     ensures multipliers { AreMultipliers model.now cuts.now mults.new }
 {

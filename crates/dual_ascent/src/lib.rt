@@ -10,4 +10,7 @@ mod tests;
 mod work;
 
 pub use ascent::{Ascent, ascend};
-pub use laws::{no_round_lowers, no_row_lowers};
+pub use laws::{
+    ascent_has_multipliers, bound_is_above_least, failing_point_is_passed, no_round_lowers,
+    no_row_lowers, point_is_reached, row_takes_first_greatest,
+};

@@ -280,7 +280,12 @@ fn climbs_with_cuts(rt: HostRuntime) -> Result<(), Fail> {
 
 #[test]
 fn keeps_its_laws(_rt: HostRuntime) -> Result<(), Fail> {
+    row_takes_first_greatest();
     no_row_lowers();
     no_round_lowers();
+    ascent_has_multipliers();
+    bound_is_above_least();
+    point_is_reached();
+    failing_point_is_passed();
     Ok(())
 }

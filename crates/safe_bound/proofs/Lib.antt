@@ -8,3 +8,5 @@ pub mod Columns
 pub mod Smallness
 pub mod Reducing
 pub mod Examples
+pub mod LeastValues
+pub mod PointBoxes

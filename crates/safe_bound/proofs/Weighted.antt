@@ -1,4 +1,4 @@
-use Rattle.std.proofs.Common.{◌≡◌, ◌∙◌, ℕ, zero, suc, ◌+◌, ◌<◌, ◌⊎◌, inl, inr, List, [], ◌∷◌, ◌++◌, length, take, drop, get_or, ℤ, pos, ◌+ℤ◌, ◌*ℤ◌, ◌≤ℤ◌, All, refl, ap, arith, add-one}
+use Rattle.std.proofs.Common.{◌≡◌, ◌∙◌, ℕ, zero, suc, ◌+◌, ◌<◌, ◌⊎◌, inl, inr, List, [], ◌∷◌, ◌++◌, length, replicate, take, drop, get_or, set, ℤ, pos, ◌+ℤ◌, ◌-ℤ◌, ◌*ℤ◌, ◌≤ℤ◌, All, refl, ap, arith, add-one}
 use Rattle.std.proofs.lemmas.Int.{ints}
 use Rattle.std.proofs.lemmas.Bool.Decides.{nat_tests}
 use Rattle.std.proofs.lemmas.List.Elements.{All-tail, All-head}
@@ -9,7 +9,7 @@ use Rattle.ip_core.specs.declared.row.Term.{Term}
 use Rattle.ip_core.proofs.Products.{mul_pos-le, add-le_both}
 use Rattle.ip_core.specs.Rows.{own_coefficient, coefficient}
 use Rattle.safe_bound.specs.Weights.{weighted_sum, weighted_coefficient}
-use Rattle.ip_core.proofs.IntProducts.{add_mul, natural_mul_assoc}
+use Rattle.ip_core.proofs.IntProducts.{add_mul, sub_mul, natural_mul_assoc}
 use Rattle.ip_core.proofs.ColumnSums.{int_sum_below-same, int_sum_below-zero, int_sum_below-add, int_sum_below-scale}
 
 -- a term at its own column, and at another
@@ -97,3 +97,26 @@ row_more f (row ∷ rows) (y ∷ ys) (suc i) d within many = omega (arith, ints,
 -- one more row
 pub weighted_sum_more : (f : Row → ℤ) (rows : List Row) (ys : List ℕ) (i : ℕ) (d : Row) → i < length rows → i < length ys → weighted_sum f (take (i + 1) rows) ys ≡ weighted_sum f (take i rows) ys +ℤ (pos (get_or ys i 0) *ℤ f (get_or rows i d))
 weighted_sum_more f rows ys i d within many = rw add-one (row_more f rows ys i d within many)
+
+-- multipliers of 0 leave nothing
+pub weighted_sum-none : (f : Row → ℤ) (rows : List Row) (n : ℕ) → weighted_sum f rows (replicate n 0) ≡ pos 0
+weighted_sum-none f [] n = refl
+weighted_sum-none f (row ∷ rows) zero = refl
+weighted_sum-none f (row ∷ rows) (suc n) = omega (arith, ints, weighted_sum-none f rows n)
+
+-- one multiplier changed moves the weighted sum by its change times what its row gives
+pub weighted_sum-set : (f : Row → ℤ) (rows : List Row) (ys : List ℕ) (i y : ℕ) (d : Row) → i < length rows → i < length ys → weighted_sum f rows (set ys i y) ≡ weighted_sum f rows ys +ℤ ((pos y -ℤ pos (get_or ys i 0)) *ℤ f (get_or rows i d))
+weighted_sum-set f [] ys i y d within many = absurd (omega arith)
+weighted_sum-set f (row ∷ rows) [] i y d within many = absurd (omega arith)
+weighted_sum-set f (row ∷ rows) (x ∷ ys) zero y d within many = omega (arith, ints, sub_mul (pos y) (pos x) (f row))
+weighted_sum-set f (row ∷ rows) (x ∷ ys) (suc i) y d within many = omega (arith, ints, weighted_sum-set f rows ys i y d (omega arith) (omega arith))
+
+natural_mul_sub : (n : ℕ) (a b : ℤ) → pos n *ℤ (a -ℤ b) ≡ (pos n *ℤ a) -ℤ (pos n *ℤ b)
+natural_mul_sub zero a b = omega (arith, ints)
+natural_mul_sub (suc n) a b = omega (arith, ints, natural_mul_sub n a b)
+
+-- a weighted sum of differences
+pub weighted_sum-sub : (f g : Row → ℤ) (rows : List Row) (ys : List ℕ) → weighted_sum (λ row. f row -ℤ g row) rows ys ≡ weighted_sum f rows ys -ℤ weighted_sum g rows ys
+weighted_sum-sub f g [] ys = refl
+weighted_sum-sub f g (row ∷ rows) [] = refl
+weighted_sum-sub f g (row ∷ rows) (y ∷ ys) = omega (arith, ints, natural_mul_sub y (f row) (g row), weighted_sum-sub f g rows ys)

@@ -12,5 +12,5 @@ mod limits;
 mod tests;
 
 pub use lagrangian::{bound, least_point, numerator};
-pub use laws::{bound_is_safe, numerator_is_small};
+pub use laws::{bound_is_safe, greatest_multiplier, numerator_is_small};
 pub use limits::{MAX_MULTIPLIER, SCALE};

@@ -237,5 +237,6 @@ fn takes_cuts_after_rows(rt: HostRuntime) -> Result<(), Fail> {
 fn keeps_its_laws(_rt: HostRuntime) -> Result<(), Fail> {
     bound_is_safe();
     numerator_is_small();
+    greatest_multiplier();
     Ok(())
 }

@@ -1,13 +1,13 @@
 use Rattle.std.proofs.Common.{◌≡◌, ◌∙◌, ◌<◌, false, if◌then◌else◌, length, refl, sym, ap, arith}
 use Rattle.safe_bound.specs.Bounds.{numerator}
-use Rattle.dual_ascent.specs.Climbs.{taken, after_row, is_same}
+use Rattle.dual_ascent.specs.Climbs.{next_multiplier, after_row, is_same}
 use Rattle.dual_ascent.proofs.Rows.{after_rows_none, after_rows_more, is_same-itself, flag_more, later_untouched}
 use Rattle.dual_ascent.proofs.climb.climb_rows.Goals.{then-climb_row, else-climb_row}
 use Rattle.dual_ascent.proofs.climb.climb_rows.Goals as goal
 
 pub loop-row-init : goal.loop-row-init
 loop-row-init c = record {
-  climbed = sym (after_rows_none (numerator c.args.model.now c.args.cuts.now c.args.bounds.now) c.args.step_size c.args.mults.now);
+  multipliers_are = sym (after_rows_none (numerator c.args.model.now c.args.cuts.now c.args.bounds.now) c.args.step_size c.args.mults.now);
   same = sym (is_same-itself c.args.mults.now);
   untouched = λ k later. refl;
   multipliers = c.requires.multipliers;
@@ -19,7 +19,7 @@ flag_is c =
     let ys = c.args.mults.now in
     let now = c.loop-row.mults in
     let i = c.loop-row.row in
-    let t = taken worth c.args.step_size now i in
+    let t = next_multiplier worth c.args.step_size now i in
     let long : length now ≡ length ys = c.loop-row.invariant.multipliers.one_each ∙ sym c.requires.multipliers.one_each in
     let within : i < length ys = omega arith in
     let whole : (if c.climb_row.result then false else c.loop-row.is_same) ≡ is_same ys c.climb_row.new.mults =
@@ -32,8 +32,8 @@ loop-row-preserved c =
     let worth = numerator c.args.model.now c.args.cuts.now c.args.bounds.now in
     let i = c.loop-row.row in
     record {
-      climbed = c.climb_row.ensures.mults ∙ ap (λ zs. after_row worth c.args.step_size zs i) c.loop-row.invariant.climbed ∙ sym (after_rows_more worth c.args.step_size c.args.mults.now i);
+      multipliers_are = c.climb_row.ensures.mults ∙ ap (λ zs. after_row worth c.args.step_size zs i) c.loop-row.invariant.multipliers_are ∙ sym (after_rows_more worth c.args.step_size c.args.mults.now i);
       same = flag_is c;
-      untouched = λ k later. rw c.climb_row.ensures.mults (later_untouched c.loop-row.mults c.args.mults.now i (taken worth c.args.step_size c.loop-row.mults i) k c.loop-row.invariant.untouched later);
+      untouched = λ k later. rw c.climb_row.ensures.mults (later_untouched c.loop-row.mults c.args.mults.now i (next_multiplier worth c.args.step_size c.loop-row.mults i) k c.loop-row.invariant.untouched later);
       multipliers = c.climb_row.ensures.multipliers;
     }

@@ -6,7 +6,7 @@ use Rattle.dual_ascent.proofs.climb.climb_rows.Given as goal
 
 abbrev pub invariant-loop-row : goal.invariant-loop-row
 invariant-loop-row l = record {
-  climbed : l.mults ≡ after_rows (numerator l.model l.cuts l.bounds) l.step_size l.initial.mults l.row;
+  multipliers_are : l.mults ≡ after_rows (numerator l.model l.cuts l.bounds) l.step_size l.initial.mults l.row;
   same : l.is_same ≡ is_same l.initial.mults l.mults;
   untouched : (k : ℕ) → l.row ≤ k → slice_index l.mults k ≡ slice_index l.initial.mults k;
   multipliers : AreMultipliers l.model l.cuts l.mults;
