@@ -100,29 +100,29 @@ pub record IsLawful {V L : Type 0} (r : Rules V L) (FitsView : V → Type 0) (Fi
   pub pending_follows : (history : List KeyedEntry) (slots : List (Option (Standing L))) (slot : ℕ)
       (l : L) (e : Entry) (es : List Entry) →
       length history < 2 ^ 31 → Agrees history slots →
-          get_or slots slot None ≡ standing l (e ∷ es) → MayFollow history e
+      get_or slots slot None ≡ standing l (e ∷ es) → MayFollow history e
   pub pending_joins : (history : List KeyedEntry) (slots : List (Option (Standing L))) (slot : ℕ)
       (k : Key) (l : L) (e : Entry) (es : List Entry) →
       length history < 2 ^ 31 → Agrees history slots →
-          get_or slots slot None ≡ standing l (e ∷ es) →
-          Agrees (history ++ keyed_entry k e ∷ []) (set slots slot (standing l es))
+      get_or slots slot None ≡ standing l (e ∷ es) →
+      Agrees (history ++ keyed_entry k e ∷ []) (set slots slot (standing l es))
   -- a task is taken: its entries may follow one after the other, and join
   pub take_follows : (history : List KeyedEntry) (slots : List (Option (Standing L))) (slot : ℕ)
       (k : Key) (l : L) (es : List Entry) →
       length history < 2 ^ 31 → Agrees history slots → get_or slots slot None ≡ standing l [] →
-          r.at_start l ≡ true → (r.begin (view_of r history) l).does ≡ Take es →
+      r.at_start l ≡ true → (r.begin (view_of r history) l).does ≡ Take es →
       FollowInTurn MayFollow history (under k es)
   pub take_joins : (history : List KeyedEntry) (slots : List (Option (Standing L))) (slot : ℕ)
       (k : Key) (l : L) (es : List Entry) →
       length history < 2 ^ 31 → Agrees history slots → get_or slots slot None ≡ standing l [] →
-          r.at_start l ≡ true → (r.begin (view_of r history) l).does ≡ Take es →
+      r.at_start l ≡ true → (r.begin (view_of r history) l).does ≡ Take es →
       Agrees (history ++ under k es) (set slots slot
-          (standing (r.begin (view_of r history) l).local []))
+      (standing (r.begin (view_of r history) l).local []))
   -- a part of a task is done, and its entries wait
   pub chunk_agrees : (history : List KeyedEntry) (slots : List (Option (Standing L))) (slot : ℕ)
       (l : L) →
       length history < 2 ^ 31 → Agrees history slots → get_or slots slot None ≡ standing l [] →
-          r.at_start l ≡ false →
+      r.at_start l ≡ false →
       Agrees history (set slots slot (standing (r.chunk l).local (r.chunk l).gives.entries))
   -- a Halt may follow, and joins; a slot may be left out
   pub halt_follows : (history : List KeyedEntry) (slots : List (Option (Standing L))) →

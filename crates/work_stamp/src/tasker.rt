@@ -67,10 +67,8 @@ pub trait Tasker {
         requires fits_view { fits_view self.now view.now }
         requires fits_local { fits_local self.now local.old }
         requires start { (rules self.now).at_start local.old ≡ true }
-        ensures does { IfOk result (λ does. does ≡ ((rules self.now).begin view.now local.old).does)
-            }
-        ensures local { OnOk result (local.new ≡ ((rules self.now).begin view.now local.old).local)
-            };
+        ensures does { IfOk result (λ does. does ≡ ((rules self.now).begin view.now local.old).does) }
+        ensures local { OnOk result (local.new ≡ ((rules self.now).begin view.now local.old).local) };
 
     /// Works on a part of the slot's task. The pulse is told of work as it goes on, of no more in all than the chunk counts.
     fn chunk<P: Pulse>(
