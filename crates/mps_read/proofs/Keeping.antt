@@ -1,7 +1,7 @@
 use Rattle.std.proofs.Common.{◌≡◌, ◌∙◌, ℕ, zero, suc, ◌+◌, ◌<◌, Bool, true, false, List, [], ◌∷◌, ◌++◌, length, Option, refl, sym, arith, subst, if◌then◌else◌}
 use Rattle.std.proofs.lemmas.List.{length-append, length-set}
 use Rattle.ip_core.specs.Decimals.{Number}
-use Rattle.mps_read.specs.RowFacts.{state_at, is_tested, with_value_mark, marked, with_marked, with_value}
+use Rattle.mps_read.specs.DraftRows.{state_at, is_tested, with_value_mark, marked_state, with_marked, with_value}
 use Rattle.mps_read.specs.Drafts.{IsDraft, IsPlaced, latest_at}
 use Rattle.mps_model.specs.declared.model.MpsRow.{MpsRow}
 use Rattle.mps_model.specs.declared.model.MpsCol.{MpsCol}
@@ -32,7 +32,7 @@ marked-by true Side s = refl
 marked-by true Range s = refl
 marked-by false kind s = refl
 
-marked-place : (kind : ValueKind) (s : RowState) → (marked kind s).place ≡ s.place
+marked-place : (kind : ValueKind) (s : RowState) → (marked_state kind s).place ≡ s.place
 marked-place kind s = marked-by (is_tested s.place) kind s
 
 pub with_marked-place : (kind : ValueKind) (n : ℕ) (states : List RowState) (row : ℕ) → (state_at (with_marked kind n states) row).place ≡ (state_at states row).place
@@ -43,7 +43,7 @@ with_marked-place kind (suc n) (s ∷ states) zero = refl
 with_marked-place kind (suc n) (s ∷ states) (suc row) = with_marked-place kind n states row
 
 pub with_marked-length : (kind : ValueKind) (n : ℕ) (states : List RowState) → length (with_marked kind n states) ≡ length states
-with_marked-length kind n states = length-set states n (marked kind (state_at states n))
+with_marked-length kind n states = length-set states n (marked_state kind (state_at states n))
 
 pub with_value-length : (kind : ValueKind) (place : RowPlace) (value : Number) (rows : List MpsRow) → length (with_value kind place value rows) ≡ length rows
 with_value-length kind Objective value rows = refl

@@ -5,17 +5,17 @@ use Rattle.mps_read.specs.Names.{is_among, place_among, with_name}
 use Rattle.mps_model.specs.Numbers.{is_zero}
 use Rattle.mps_read.specs.Numerals.{decimal_of}
 use Rattle.mps_read.specs.Forms.{Form, Pair, Blank, Spoilt, Head, UnknownHead, Stray, Miscounted, SenseLine, FreeRow, KeptRow, UntypedRow, Marker, UnknownMarker, Entries, Values, BoundLine, UntypedBound}
-use Rattle.mps_read.specs.Facts.{is_used, first_given}
+use Rattle.mps_read.specs.Sets.{is_used, first_given}
 use Rattle.mps_model.specs.Prints.{fresh_row}
-use Rattle.mps_read.specs.RowFacts.{fresh, free_place, state_at, is_tested, with_marked, with_value, place_of_pair}
-use Rattle.mps_read.specs.ColumnFacts.{fresh_column, column_at, with_entry}
-use Rattle.mps_read.specs.Kinds.{kind_of, values_use, has_bad_numeral, has_unknown_name, is_repeated_entry, is_split_column}
-use Rattle.mps_read.specs.Readings.{draft_of}
+use Rattle.mps_read.specs.DraftRows.{fresh, free_place, state_at, is_tested, with_marked, with_value, place_of_pair}
+use Rattle.mps_read.specs.DraftColumns.{fresh_column, column_at, with_entry}
+use Rattle.mps_read.specs.DraftKinds.{draft_kind, values_use, is_repeated_in}
+use Rattle.mps_read.specs.Kinds.{has_bad_numeral, has_unknown_name, is_split_column}
+use Rattle.mps_read.specs.Drafts.{first_draft, IsDraft, IsPlaced}
 use Rattle.mps_read.specs.declared.error.MpsKind.TheVariants.{Numeral, UnknownName, RepeatedEntry, SplitColumn}
 use Rattle.std.proofs.lemmas.Bool.Decides.{nat_tests}
 use Rattle.mps_read.proofs.Places.{place_new}
-use Rattle.mps_read.specs.Steps.{after, after_head, after_free, after_row, begun, entered, entered_pair, given, given_pair, with_values_set}
-use Rattle.mps_read.specs.Drafts.{IsDraft, IsPlaced}
+use Rattle.mps_read.specs.Steps.{after, after_head, after_free, after_row, after_column, after_entry, after_entry_pair, after_value, after_value_pair, with_values_set}
 use Rattle.mps_model.specs.declared.model.RowKind.{RowKind}
 use Rattle.mps_model.specs.declared.model.MpsCol.{MpsCol}
 use Rattle.mps_read.specs.declared.section.Section.{Section}
@@ -74,7 +74,7 @@ row_kept d is kind name =
       marked_before = λ row. subst (λ (n : ℕ). n ≤ length d.column_names) (sym (latest-push d.latest row)) (is.marked_before row);
     }))
 
-begun_kept : (d : Draft) → IsDraft d → (column : List ℕ) → IsDraft (begun d column)
+begun_kept : (d : Draft) → IsDraft d → (column : List ℕ) → IsDraft (after_column d column)
 begun_kept d is column =
     by_case (is_among column d.column_names) _
     (λ known. rw known (remade d is _ _ _ _ _ _ _ _ _ _ _ _ _ refl (λ row. refl) refl refl))
@@ -94,7 +94,7 @@ set_if-length : {A : Type 0} (b : Bool) (xs : List A) (i : ℕ) (x : A) → leng
 set_if-length true xs i x = refl
 set_if-length false xs i x = length-set xs i x
 
-entered_kept : (d : Draft) → IsDraft d → (row : ℕ) (place : RowPlace) (col : ℕ) (value : Number) → col + 1 ≡ length d.column_names → (is_tested place ≡ true → row < length d.row_names) → IsDraft (entered row place col value d)
+entered_kept : (d : Draft) → IsDraft d → (row : ℕ) (place : RowPlace) (col : ℕ) (value : Number) → col + 1 ≡ length d.column_names → (is_tested place ≡ true → row < length d.row_names) → IsDraft (after_entry row place col value d)
 entered_kept d is row Dropped col value last within = remade d is _ _ _ _ _ _ _ _ _ _ _ _ _ refl (λ r. refl) refl refl
 entered_kept d is row Objective col value last within = record {
   states = is.states;
@@ -115,7 +115,7 @@ entered_kept d is row (Kept k) col value last within = record {
   marked_before = λ r. latest-below d.latest row (col + 1) (length d.column_names) r (omega (arith, last)) is.marked_before;
 }
 
-given_kept : (d : Draft) → IsDraft d → (kind : ValueKind) (row : ℕ) (place : RowPlace) (value : Number) → IsDraft (given kind row place value d)
+given_kept : (d : Draft) → IsDraft d → (kind : ValueKind) (row : ℕ) (place : RowPlace) (value : Number) → IsDraft (after_value kind row place value d)
 given_kept d is kind row place value =
     remade d is _ _ _ _ _ _ _ _ _ _ (with_marked kind row d.row_states) (with_value kind place value d.rows) _ (with_marked-length kind row d.row_states) (with_marked-place kind row d.row_states) (with_value-length kind place value d.rows) refl
 
@@ -152,34 +152,34 @@ last_column d column whole =
 within_names : (d : Draft) → IsDraft d → (row : ℕ) → is_tested (state_at d.row_states row).place ≡ true → row < length d.row_names
 within_names d is row tested = omega (arith, tested-within d.row_states row tested, is.states)
 
-entries_kept : (d : Draft) → IsDraft d → (column : List ℕ) (first : Pair) (second : Option Pair) → is_split_column d (Entries column first second) ≡ false → IsDraft (after d (Entries column first second))
+entries_kept : (d : Draft) → IsDraft d → (column : List ℕ) (first : Pair) (second : Option Pair) → is_split_column d.column_names (Entries column first second) ≡ false → IsDraft (after d (Entries column first second))
 entries_kept d is column first None whole =
     let col : ℕ = place_among column d.column_names in
     let row : ℕ = place_among first.row d.row_names in
-    entered_kept (begun d column) (begun_kept d is column) row (place_of_pair d.row_names d.row_states first) col (decimal_of first.numeral) (last_column d column whole) (within_names d is row)
+    entered_kept (after_column d column) (begun_kept d is column) row (place_of_pair d.row_names d.row_states first) col (decimal_of first.numeral) (last_column d column whole) (within_names d is row)
 entries_kept d is column first (Some second) whole =
     let col : ℕ = place_among column d.column_names in
     let row : ℕ = place_among first.row d.row_names in
     let row2 : ℕ = place_among second.row d.row_names in
-    entered_kept (entered_pair d col first (begun d column))
-    (entered_kept (begun d column) (begun_kept d is column) row (place_of_pair d.row_names d.row_states first) col (decimal_of first.numeral) (last_column d column whole) (within_names d is row))
+    entered_kept (after_entry_pair d col first (after_column d column))
+    (entered_kept (after_column d column) (begun_kept d is column) row (place_of_pair d.row_names d.row_states first) col (decimal_of first.numeral) (last_column d column whole) (within_names d is row))
     row2 (place_of_pair d.row_names d.row_states second) col (decimal_of second.numeral) (last_column d column whole) (within_names d is row2)
 
 values_kept : (d : Draft) → IsDraft d → (kind : ValueKind) (set : List ℕ) (first : Pair) (second : Option Pair) → IsDraft (after d (Values kind set first second))
 values_kept d is kind set first None =
     by_case (is_used (values_use kind d).set set) _
-    (λ used. rw used (set_kept (given_pair d kind first d) (given_kept d is kind (place_among first.row d.row_names) (place_of_pair d.row_names d.row_states first) (decimal_of first.numeral)) kind set))
+    (λ used. rw used (set_kept (after_value_pair d kind first d) (given_kept d is kind (place_among first.row d.row_names) (place_of_pair d.row_names d.row_states first) (decimal_of first.numeral)) kind set))
     (λ skipped. rw skipped is)
 values_kept d is kind set first (Some second) =
     by_case (is_used (values_use kind d).set set) _
-    (λ used. rw used (set_kept (given_pair d kind second (given_pair d kind first d))
-    (given_kept (given_pair d kind first d)
+    (λ used. rw used (set_kept (after_value_pair d kind second (after_value_pair d kind first d))
+    (given_kept (after_value_pair d kind first d)
     (given_kept d is kind (place_among first.row d.row_names) (place_of_pair d.row_names d.row_states first) (decimal_of first.numeral))
     kind (place_among second.row d.row_names) (place_of_pair d.row_names d.row_states second) (decimal_of second.numeral)) kind set))
     (λ skipped. rw skipped is)
 
 -- a line that is taken keeps a draft
-pub after_kept : (d : Draft) (f : Form) → IsDraft d → kind_of d f ≡ None → IsDraft (after d f)
+pub after_kept : (d : Draft) (f : Form) → IsDraft d → draft_kind d f ≡ None → IsDraft (after d f)
 after_kept d Blank is h = is
 after_kept d Spoilt is h = is
 after_kept d (Head section word) is h = head_kept d is section word
@@ -195,7 +195,7 @@ after_kept d UnknownMarker is h = is
 after_kept d (Entries column first second) is h =
     let f : Form = Entries column first second in
     entries_kept d is column first second
-    (fourth_fails (has_bad_numeral d f) (has_unknown_name d f) (is_repeated_entry d f) (is_split_column d f) Numeral UnknownName RepeatedEntry SplitColumn _ h)
+    (fourth_fails (has_bad_numeral f) (has_unknown_name d.row_names d.column_names f) (is_repeated_in d f) (is_split_column d.column_names f) Numeral UnknownName RepeatedEntry SplitColumn _ h)
 after_kept d (Values kind set first second) is h = values_kept d is kind set first second
 after_kept d (BoundLine kind set column numeral) is h =
     by_case (is_used d.bounds.set set) _
@@ -258,7 +258,7 @@ not_zero : (n : ℕ) → false ≡ (0 == n + 1)
 not_zero n = grind (arith, nat_tests)
 
 -- the draft before the first line
-pub first_kept : (d : Draft) → d ≡ draft_of [] → IsDraft d
+pub first_kept : (d : Draft) → d ≡ first_draft → IsDraft d
 first_kept d is = rw is (record {
   states = refl;
   latest = refl;

@@ -1,6 +1,12 @@
 pub mod Naming
 pub mod Refusals
 pub mod Files
+pub mod Lookups
+pub mod SaidNames
+pub mod SaidRows
+pub mod SaidColumns
+pub mod Standing
+pub mod Following
 pub mod Bridge
 pub mod Truths
 pub mod Cutting
@@ -30,3 +36,4 @@ pub mod ModelAllowed
 pub mod ModelEnds
 pub mod ModelSteps
 pub mod ModelReads
+pub mod Sizes

@@ -1,7 +1,7 @@
 use Rattle.std.proofs.Common.{◌≡◌, ◌∙◌, ℕ, zero, suc, ◌+◌, ◌≤◌, ◌<◌, ◌==◌, Bool, true, false, ◌&&◌, ◌||◌, List, [], ◌∷◌, ◌++◌, length, refl, ap, sym, arith, subst, slice_set}
 use Rattle.std.proofs.lemmas.List.Folds.{list_any-append}
 use Rattle.std.proofs.lemmas.Bool.Decides.{nat_tests}
-use Rattle.mps_read.specs.Kinds.{has_mark}
+use Rattle.mps_read.specs.DraftKinds.{has_mark}
 use Rattle.mps_read.specs.Drafts.{latest_at}
 use Rattle.mps_read.specs.declared.draft.Mark.{Mark}
 use Rattle.mps_read.proofs.Truths.{by_case}
@@ -36,7 +36,7 @@ same_eq n = grind (arith, nat_tests)
 eq_suc : (n m : ℕ) → (n + 1 == m + 1) ≡ (n == m)
 eq_suc n m = grind (arith, nat_tests)
 
-not_eq : (n m : ℕ) → n < m → (n == m) ≡ false
+pub not_eq : (n m : ℕ) → n < m → (n == m) ≡ false
 not_eq n m h = grind (arith, nat_tests)
 
 or_true : (b : Bool) → (b || true) ≡ true

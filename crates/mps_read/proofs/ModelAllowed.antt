@@ -3,7 +3,8 @@ use Rattle.std.specs.Str.{bytes_eq}
 use Rattle.std.proofs.lemmas.Bool.{true≢false}
 use Rattle.mps_read.specs.Names.{is_among, is_long}
 use Rattle.mps_read.specs.Forms.{Form, Pair, Head, FreeRow, KeptRow, Entries, marker_word}
-use Rattle.mps_read.specs.Kinds.{kind_of, rank_of, is_in_order, has_bad_numeral, has_unknown_name, is_repeated_entry, is_split_column}
+use Rattle.mps_read.specs.DraftKinds.{has_begun, draft_kind, is_repeated_in}
+use Rattle.mps_read.specs.Kinds.{rank_of, is_in_order, has_bad_numeral, has_unknown_name, is_split_column}
 use Rattle.mps_read.specs.declared.error.MpsKind.TheVariants.{SectionOrder, Numeral, RepeatedName, UnknownName, RepeatedEntry, SplitColumn, Marker, NoObjective, LongName}
 use Rattle.mps_model.specs.declared.model.RowKind.{RowKind}
 use Rattle.mps_read.specs.declared.section.Section.TheVariants.{Name, Columns, Rhs, Ranges, Bounds, Endata}
@@ -15,13 +16,13 @@ use Rattle.mps_read.proofs.Truths.{none_else}
 abbrev pub IsNew : List (List ℕ) → List ℕ → Type 0
 IsNew names name = (is_among name names ≡ false) × (bytes_eq name marker_word ≡ false) × (is_long name ≡ false)
 
-pub free_allowed : (d : Draft) (name : List ℕ) → kind_of d (FreeRow name) ≡ None → IsNew d.row_names name
+pub free_allowed : (d : Draft) (name : List ℕ) → draft_kind d (FreeRow name) ≡ None → IsNew d.row_names name
 free_allowed d name h =
     let p = none_else (is_among name d.row_names) RepeatedName _ h in
     let q = none_else (bytes_eq name marker_word) Marker _ p.1 in
     (p.0, q.0, (none_else (is_long name) LongName None q.1).0)
 
-pub row_allowed : (d : Draft) (kind : RowKind) (name : List ℕ) → kind_of d (KeptRow kind name) ≡ None → IsNew d.row_names name
+pub row_allowed : (d : Draft) (kind : RowKind) (name : List ℕ) → draft_kind d (KeptRow kind name) ≡ None → IsNew d.row_names name
 row_allowed d kind name h =
     let p = none_else (is_among name d.row_names) RepeatedName _ h in
     let q = none_else (bytes_eq name marker_word) Marker _ p.1 in
@@ -32,10 +33,10 @@ fails_third a b c e f x y z v w h =
     let p = none_else c z _ (none_else b y _ (none_else a x _ h).1).1 in
     (p.0, (none_else f w None (none_else e v _ p.1).1).0)
 
-pub entries_allowed : (d : Draft) (column : List ℕ) (first : Pair) (second : Option Pair) → kind_of d (Entries column first second) ≡ None → (is_repeated_entry d (Entries column first second) ≡ false) × (is_long column ≡ false)
+pub entries_allowed : (d : Draft) (column : List ℕ) (first : Pair) (second : Option Pair) → draft_kind d (Entries column first second) ≡ None → (is_repeated_in d (Entries column first second) ≡ false) × (is_long column ≡ false)
 entries_allowed d column first second h =
     let f : Form = Entries column first second in
-    fails_third (has_bad_numeral d f) (has_unknown_name d f) (is_repeated_entry d f) (is_split_column d f) (is_long column) Numeral UnknownName RepeatedEntry SplitColumn LongName h
+    fails_third (has_bad_numeral f) (has_unknown_name d.row_names d.column_names f) (is_repeated_in d f) (is_split_column d.column_names f) (is_long column) Numeral UnknownName RepeatedEntry SplitColumn LongName h
 
 -- section lines
 
@@ -51,20 +52,20 @@ some_from : (o : Option (List ℕ)) → is_none o ≡ false → is_some o ≡ tr
 some_from None h = absurd (true≢false h)
 some_from (Some name) h = refl
 
-pub name_allowed : (d : Draft) (word : List ℕ) → kind_of d (Head Name word) ≡ None → is_long word ≡ false
-name_allowed d word h = (none_else (is_long word) LongName _ (none_else (not (is_in_order d Name)) SectionOrder _ h).1).0
+pub name_allowed : (d : Draft) (word : List ℕ) → draft_kind d (Head Name word) ≡ None → is_long word ≡ false
+name_allowed d word h = (none_else (is_long word) LongName _ (none_else (not (is_in_order d.section (has_begun d Name) Name)) SectionOrder _ h).1).0
 
-pub columns_allowed : (d : Draft) (word : List ℕ) → kind_of d (Head Columns word) ≡ None → is_some d.objective ≡ true
-columns_allowed d word h = some_from d.objective (none_else (is_none d.objective) NoObjective _ (none_else (not (is_in_order d Columns)) SectionOrder _ h).1).0
+pub columns_allowed : (d : Draft) (word : List ℕ) → draft_kind d (Head Columns word) ≡ None → is_some d.objective ≡ true
+columns_allowed d word h = some_from d.objective (none_else (is_none d.objective) NoObjective _ (none_else (not (is_in_order d.section (has_begun d Columns) Columns)) SectionOrder _ h).1).0
 
-pub rhs_allowed : (d : Draft) (word : List ℕ) → kind_of d (Head Rhs word) ≡ None → nat_le 4 (rank_of d.section) ≡ true
-rhs_allowed d word h = first_holds (nat_le 4 (rank_of d.section)) (not d.rhs.begun) (none_else (not (is_in_order d Rhs)) SectionOrder _ h).0
+pub rhs_allowed : (d : Draft) (word : List ℕ) → draft_kind d (Head Rhs word) ≡ None → nat_le 4 (rank_of d.section) ≡ true
+rhs_allowed d word h = first_holds (nat_le 4 (rank_of d.section)) (not d.rhs.has_begun) (none_else (not (is_in_order d.section (has_begun d Rhs) Rhs)) SectionOrder _ h).0
 
-pub ranges_allowed : (d : Draft) (word : List ℕ) → kind_of d (Head Ranges word) ≡ None → nat_le 4 (rank_of d.section) ≡ true
-ranges_allowed d word h = first_holds (nat_le 4 (rank_of d.section)) (not d.ranges.begun) (none_else (not (is_in_order d Ranges)) SectionOrder _ h).0
+pub ranges_allowed : (d : Draft) (word : List ℕ) → draft_kind d (Head Ranges word) ≡ None → nat_le 4 (rank_of d.section) ≡ true
+ranges_allowed d word h = first_holds (nat_le 4 (rank_of d.section)) (not d.ranges.has_begun) (none_else (not (is_in_order d.section (has_begun d Ranges) Ranges)) SectionOrder _ h).0
 
-pub bounds_allowed : (d : Draft) (word : List ℕ) → kind_of d (Head Bounds word) ≡ None → nat_le 4 (rank_of d.section) ≡ true
-bounds_allowed d word h = first_holds (nat_le 4 (rank_of d.section)) (not d.bounds.begun) (none_else (not (is_in_order d Bounds)) SectionOrder _ h).0
+pub bounds_allowed : (d : Draft) (word : List ℕ) → draft_kind d (Head Bounds word) ≡ None → nat_le 4 (rank_of d.section) ≡ true
+bounds_allowed d word h = first_holds (nat_le 4 (rank_of d.section)) (not d.bounds.has_begun) (none_else (not (is_in_order d.section (has_begun d Bounds) Bounds)) SectionOrder _ h).0
 
-pub end_allowed : (d : Draft) (word : List ℕ) → kind_of d (Head Endata word) ≡ None → nat_le 4 (rank_of d.section) ≡ true
-end_allowed d word h = holds (nat_le 4 (rank_of d.section)) (none_else (not (is_in_order d Endata)) SectionOrder _ h).0
+pub end_allowed : (d : Draft) (word : List ℕ) → draft_kind d (Head Endata word) ≡ None → nat_le 4 (rank_of d.section) ≡ true
+end_allowed d word h = holds (nat_le 4 (rank_of d.section)) (none_else (not (is_in_order d.section (has_begun d Endata) Endata)) SectionOrder _ h).0

@@ -3,16 +3,17 @@ use Rattle.std.proofs.lemmas.Bool.{false≢true}
 use Rattle.std.proofs.lemmas.Int.{ints}
 use Rattle.std.proofs.lemmas.List.{map-append}
 use Rattle.std.proofs.lemmas.List.Elements.{All-nil, All-push}
-use Rattle.ip_core.specs.Decimals.{Number, IsDecimal, negation, read_decimal}
+use Rattle.ip_core.specs.Decimals.{Number, IsDecimal, negated, read_decimal}
 use Rattle.ip_core.specs.declared.decimal.NumeralError.{NumeralError}
 use Rattle.ip_core.proofs.DecimalReads.{zero_is, read_decimal_is}
 use Rattle.mps_read.specs.Names.{is_among, extended}
 use Rattle.mps_model.specs.Numbers.{zero_decimal, is_zero, is_infinite}
 use Rattle.mps_read.specs.Numerals.{one_decimal, or_zero, decimal_of}
-use Rattle.mps_read.specs.RowFacts.{state_at, is_tested}
-use Rattle.mps_read.specs.ColumnFacts.{column_at, fresh_column, with_entry, with_mark, low_limit, high_limit, bounded, with_bound}
-use Rattle.mps_read.specs.Kinds.{has_mark}
-use Rattle.mps_read.specs.Steps.{begun, entered}
+use Rattle.mps_read.specs.DraftRows.{state_at, is_tested}
+use Rattle.mps_read.specs.DraftColumns.{column_at, fresh_column, with_entry, with_mark, bounded_column, with_bound}
+use Rattle.mps_read.specs.Columns.{low_limit, high_limit}
+use Rattle.mps_read.specs.DraftKinds.{has_mark}
+use Rattle.mps_read.specs.Steps.{after_column, after_entry}
 use Rattle.mps_model.specs.MpsModels.{IsField, IsMpsEntry, IsLow, IsHigh}
 use Rattle.mps_model.specs.declared.model.Limit.{Limit}
 use Rattle.mps_model.specs.declared.model.Limit.TheVariants.{Free, At}
@@ -45,12 +46,12 @@ no_tenth k same = omega (arith, same)
 one_is : IsDecimal one_decimal
 one_is = record { reduced = λ k same. absurd (no_tenth k same); zero = λ none. refl; few = omega arith; least = omega (arith, ints); greatest = omega (arith, ints) }
 
-low_by : (b : Bool) (value : Number) → IsDecimal value → is_infinite (negation value) ≡ b → IsLow (if b then Free else At value)
+low_by : (b : Bool) (value : Number) → IsDecimal value → is_infinite (negated value) ≡ b → IsLow (if b then Free else At value)
 low_by true value v h = tt
 low_by false value v h = (v, h)
 
 low_is : (value : Number) → IsDecimal value → IsLow (low_limit value)
-low_is value v = low_by (is_infinite (negation value)) value v refl
+low_is value v = low_by (is_infinite (negated value)) value v refl
 
 high_by : (b : Bool) (value : Number) → IsDecimal value → is_infinite value ≡ b → IsHigh (if b then Free else At value)
 high_by true value v h = tt
@@ -65,7 +66,7 @@ module _ (n : ℕ) (c : MpsCol) (is : IsColumn n c) where
   limited : (integer : Bool) (low high : Limit) → IsLow low → IsHigh high → IsColumn n (record c { integer = integer; low = low; high = high })
   limited integer low high l h = record { name = is.name; cost = is.cost; entries = is.entries; once = is.once; low = l; high = h }
 
-  pub bounded_is : (kind : BoundKind) (value : Number) → IsDecimal value → IsColumn n (bounded kind value c)
+  pub bounded_is : (kind : BoundKind) (value : Number) → IsDecimal value → IsColumn n (bounded_column kind value c)
   bounded_is Lower value v = limited c.integer (low_limit value) c.high (low_is value v) is.high
   bounded_is Upper value v = limited c.integer c.low (high_limit value) is.low (high_is value v)
   bounded_is Fixed value v = limited c.integer (low_limit value) (high_limit value) (low_is value v) (high_is value v)
@@ -91,7 +92,7 @@ module _ (n : ℕ) (c : MpsCol) (is : IsColumn n c) where
         high = is.high;
       }
 
-bounded_name : (kind : BoundKind) (value : Number) (c : MpsCol) → (bounded kind value c).name ≡ c.name
+bounded_name : (kind : BoundKind) (value : Number) (c : MpsCol) → (bounded_column kind value c).name ≡ c.name
 bounded_name Lower value c = refl
 bounded_name Upper value c = refl
 bounded_name Fixed value c = refl
@@ -102,7 +103,7 @@ bounded_name NoLower value c = refl
 bounded_name NoUpper value c = refl
 bounded_name Binary value c = refl
 
-bounded_rows : (kind : BoundKind) (value : Number) (c : MpsCol) → rows_in (bounded kind value c) ≡ rows_in c
+bounded_rows : (kind : BoundKind) (value : Number) (c : MpsCol) → rows_in (bounded_column kind value c) ≡ rows_in c
 bounded_rows Lower value c = refl
 bounded_rows Upper value c = refl
 bounded_rows Fixed value c = refl
@@ -131,10 +132,10 @@ set_marked states cols marks col c h same = record {
 
 pub bound_columns : (kind : BoundKind) (value : Number) (col kept : ℕ) (cols : List MpsCol) (names : List (List ℕ)) → IsDecimal value → AreColumns kept cols names → AreColumns kept (with_bound kind value col cols) names
 bound_columns kind value col kept cols names v h =
-    set_columns kept cols names col (bounded kind value (column_at cols col)) h (bounded_name kind value (column_at cols col)) (λ is. bounded_is kept (column_at cols col) is kind value v)
+    set_columns kept cols names col (bounded_column kind value (column_at cols col)) h (bounded_name kind value (column_at cols col)) (λ is. bounded_is kept (column_at cols col) is kind value v)
 
 pub bound_marked : (kind : BoundKind) (value : Number) (col : ℕ) (states : List RowState) (cols : List MpsCol) (marks : List Mark) → AreMarked states cols marks → AreMarked states (with_bound kind value col cols) marks
-bound_marked kind value col states cols marks h = set_marked states cols marks col (bounded kind value (column_at cols col)) h (bounded_rows kind value (column_at cols col))
+bound_marked kind value col states cols marks h = set_marked states cols marks col (bounded_column kind value (column_at cols col)) h (bounded_rows kind value (column_at cols col))
 
 -- a column begins
 
@@ -156,7 +157,7 @@ begun_marked false states cols marks integer column h = record {
   each = λ r k i at none. at_push (λ (x : MpsCol). Misses k (rows_in x)) cols i (fresh_column integer column) (fresh_column false []) (h.each r k i at none) tt;
 }
 
-pub begun_kept : (d : Draft) (column : List ℕ) → IsReadable d → IsField column → IsReadable (begun d column)
+pub begun_kept : (d : Draft) (column : List ℕ) → IsReadable d → IsField column → IsReadable (after_column d column)
 begun_kept d column is field = record {
   header = is.header;
   constant_is = is.constant_is;
@@ -215,7 +216,7 @@ kept_entered false d row k col value some is v known at unmarked = record {
 }
 
 pub entered_readable : (d : Draft) (row : ℕ) (place : RowPlace) (col : ℕ) (value : Number) → IsReadable d → IsDecimal value → ((k : ℕ) → place ≡ Kept k → k < d.kept) → (state_at d.row_states row).place ≡ place
-    → (is_tested place ≡ true → has_mark row col d.marks ≡ false) → IsReadable (entered row place col value d)
+    → (is_tested place ≡ true → has_mark row col d.marks ≡ false) → IsReadable (after_entry row place col value d)
 entered_readable d row Objective col value is v known at unmarked = record {
   header = is.header;
   constant_is = is.constant_is;

@@ -1,9 +1,10 @@
 use Rattle.std.proofs.Common.{◌≡◌, ℕ, true, false, nat_le, List, ◌∷◌, map, Option, Some, None, is_some, All}
 use Rattle.ip_core.specs.Names.{IsName}
 use Rattle.ip_core.specs.Decimals.{Number, IsDecimal}
-use Rattle.mps_read.specs.RowFacts.{state_at}
-use Rattle.mps_read.specs.ColumnFacts.{column_at}
-use Rattle.mps_read.specs.Kinds.{has_mark, rank_of}
+use Rattle.mps_read.specs.DraftRows.{state_at}
+use Rattle.mps_read.specs.DraftColumns.{column_at}
+use Rattle.mps_read.specs.DraftKinds.{has_mark}
+use Rattle.mps_read.specs.Kinds.{rank_of}
 use Rattle.mps_model.specs.MpsModels.{IsField, IsRowName, IsMpsRow, IsMpsEntry, IsLow, IsHigh}
 use Rattle.mps_model.specs.declared.model.MpsRow.{MpsRow}
 use Rattle.mps_model.specs.declared.model.MpsCol.{MpsCol}

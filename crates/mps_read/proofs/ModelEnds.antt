@@ -4,9 +4,10 @@ use Rattle.std.proofs.lemmas.List.Elements.{All-nil, All-weaker}
 use Rattle.ip_core.specs.Decimals.{IsDecimal}
 use Rattle.ip_core.proofs.DecimalReads.{zero_is}
 use Rattle.mps_read.specs.Forms.{Form, Blank, Spoilt, Head, UnknownHead, Stray, Miscounted, SenseLine, FreeRow, KeptRow, UntypedRow, Marker, UnknownMarker, Entries, Values, BoundLine, UntypedBound, is_end}
-use Rattle.mps_read.specs.Kinds.{kind_of}
-use Rattle.mps_read.specs.Drafts.{IsDraft}
-use Rattle.mps_read.specs.Readings.{draft_of, is_maximise, model_of, name_or_empty}
+use Rattle.mps_read.specs.DraftKinds.{draft_kind}
+use Rattle.mps_read.specs.Drafts.{IsDraft, first_draft}
+use Rattle.mps_read.specs.Readings.{is_maximise, name_or_empty}
+use Rattle.mps_read.specs.Steps.{draft_model}
 use Rattle.mps_model.specs.MpsModels.{IsMpsRow, IsMpsCol, IsMpsModel}
 use Rattle.mps_model.specs.declared.model.MpsCol.{MpsCol}
 use Rattle.mps_read.specs.declared.section.Section.TheVariants.{Name, Objsense, Rows, Columns, Rhs, Ranges, Bounds, Endata}
@@ -19,7 +20,7 @@ use Rattle.mps_read.proofs.ModelAllowed.{end_allowed}
 -- the draft before the first line and that at the end
 
 -- before the first line
-pub first_readable : IsReadable (draft_of [])
+pub first_readable : IsReadable first_draft
 first_readable = record {
   header = record { name = name_is [] refl refl; row_name = tt; begun = λ h. absurd (false≢true h) };
   constant_is = zero_is;
@@ -31,7 +32,7 @@ first_readable = record {
 
 -- at the end
 
-pub end_objective : (d : Draft) (form : Form) → IsReadable d → kind_of d form ≡ None → is_end form ≡ true → is_some d.objective ≡ true
+pub end_objective : (d : Draft) (form : Form) → IsReadable d → draft_kind d form ≡ None → is_end form ≡ true → is_some d.objective ≡ true
 end_objective d Blank is a h = absurd (false≢true h)
 end_objective d Spoilt is a h = absurd (false≢true h)
 end_objective d (Head Name word) is a h = absurd (false≢true h)
@@ -74,5 +75,5 @@ model_by d (Some name) header rows constant columns kept some = record {
   column_names = distinct (map (λ col. col.name) d.cols) [] (subst (λ (ns : List (List ℕ)). AreApart ns) (sym columns.named) columns.apart);
 }
 
-pub model_is : (d : Draft) → IsDraft d → IsReadable d → is_some d.objective ≡ true → IsMpsModel (model_of d)
+pub model_is : (d : Draft) → IsDraft d → IsReadable d → is_some d.objective ≡ true → IsMpsModel (draft_model d)
 model_is d draft is some = model_by d d.objective is.header is.rows_are is.constant_is is.columns draft.rows some

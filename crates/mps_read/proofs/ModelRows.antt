@@ -2,13 +2,13 @@ use Rattle.std.proofs.Common.{◌≡◌, ◌∙◌, ◌<◌, ◌+◌, ℕ, zero,
 use Rattle.std.proofs.lemmas.Int.{ints}
 use Rattle.std.proofs.lemmas.List.{map-append}
 use Rattle.std.proofs.lemmas.List.Elements.{All-push, All-weaker, All-head, All-tail}
-use Rattle.ip_core.specs.Decimals.{Number, IsDecimal, negation}
+use Rattle.ip_core.specs.Decimals.{Number, IsDecimal, negated}
 use Rattle.ip_core.proofs.DecimalReads.{zero_is}
 use Rattle.mps_read.specs.Names.{is_among}
-use Rattle.mps_read.specs.Facts.{first_given}
+use Rattle.mps_read.specs.Sets.{first_given}
 use Rattle.mps_model.specs.Prints.{fresh_row}
-use Rattle.mps_read.specs.RowFacts.{state_at, fresh, free_place, valued, with_value, with_constant, with_marked}
-use Rattle.mps_read.specs.ColumnFacts.{column_at, fresh_column}
+use Rattle.mps_read.specs.DraftRows.{state_at, fresh, free_place, valued_row, with_value, with_constant, with_marked}
+use Rattle.mps_read.specs.DraftColumns.{column_at, fresh_column}
 use Rattle.mps_read.specs.Drafts.{IsPlaced}
 use Rattle.mps_model.specs.MpsModels.{IsRowName, IsMpsRow, IsMpsEntry}
 use Rattle.mps_model.specs.declared.model.RowKind.{RowKind}
@@ -144,7 +144,7 @@ more_columns kept cols names h = record { each = All-weaker (IsColumn kept) (IsC
 
 -- values
 
-negated_decimal : (n : Number) → IsDecimal n → IsDecimal (negation n)
+negated_decimal : (n : Number) → IsDecimal n → IsDecimal (negated n)
 negated_decimal n h = record {
   reduced = λ k same. (let none : n.mantissa ≡ pos 0 = h.reduced k (omega (arith, ints, same)) in omega (arith, ints, none));
   zero = λ none. h.zero (omega (arith, ints, none));
@@ -159,11 +159,11 @@ constant_kept Side Dropped value constant v c = c
 constant_kept Side (Kept row) value constant v c = c
 constant_kept Range place value constant v c = c
 
-valued_is : (kind : ValueKind) (value : Number) (row : MpsRow) → IsDecimal value → IsMpsRow row → IsMpsRow (valued kind value row)
+valued_is : (kind : ValueKind) (value : Number) (row : MpsRow) → IsDecimal value → IsMpsRow row → IsMpsRow (valued_row kind value row)
 valued_is Side value row v h = record { name = h.name; side = v; range = h.range }
 valued_is Range value row v h = record { name = h.name; side = h.side; range = v }
 
-valued_name : (kind : ValueKind) (value : Number) (row : MpsRow) → (valued kind value row).name ≡ row.name
+valued_name : (kind : ValueKind) (value : Number) (row : MpsRow) → (valued_row kind value row).name ≡ row.name
 valued_name Side value row = refl
 valued_name Range value row = refl
 
@@ -173,9 +173,9 @@ value_rows kind Dropped value o rows names v h = h
 value_rows kind (Kept row) value o rows names v h =
     let d : MpsRow = fresh_row Less [] in
     let old : MpsRow = slice_index_or rows row d in
-    let same = map_set_same (λ (r : MpsRow). r.name) rows row (valued kind value old) d (valued_name kind value old) in
+    let same = map_set_same (λ (r : MpsRow). r.name) rows row (valued_row kind value old) d (valued_name kind value old) in
     record {
-      each = each_set IsMpsRow rows row (valued kind value old) d h.each (valued_is kind value old v);
+      each = each_set IsMpsRow rows row (valued_row kind value old) d h.each (valued_is kind value old v);
       apart = subst (λ (ns : List (List ℕ)). AreApart (listed o ns)) (sym same) h.apart;
       known = subst (λ (ns : List (List ℕ)). AreAmong names (listed o ns)) (sym same) h.known;
     }

@@ -6,12 +6,13 @@ use Rattle.mps_read.specs.Names.{is_among, place_among, extended}
 use Rattle.mps_read.specs.Lines.{is_visible}
 use Rattle.mps_read.specs.Numerals.{decimal_of}
 use Rattle.mps_read.specs.Forms.{Form, Pair, Blank, Spoilt, Head, UnknownHead, Stray, Miscounted, SenseLine, FreeRow, KeptRow, UntypedRow, Marker, UnknownMarker, Entries, Values, BoundLine, UntypedBound}
-use Rattle.mps_read.specs.Facts.{is_used, first_given}
+use Rattle.mps_read.specs.Sets.{is_used, first_given}
 use Rattle.mps_model.specs.Prints.{fresh_row}
-use Rattle.mps_read.specs.RowFacts.{fresh, free_place, state_at, is_tested, place_of_pair}
-use Rattle.mps_read.specs.Kinds.{kind_of, rank_of, values_use, has_mark, is_repeated_entry}
+use Rattle.mps_read.specs.DraftRows.{fresh, free_place, state_at, is_tested, place_of_pair}
+use Rattle.mps_read.specs.DraftKinds.{draft_kind, values_use, has_mark, is_repeated_in}
+use Rattle.mps_read.specs.Kinds.{rank_of}
 use Rattle.mps_read.specs.Drafts.{IsDraft}
-use Rattle.mps_read.specs.Steps.{after, after_head, after_bound, begun, entered_pair, given, given_pair, with_values_set}
+use Rattle.mps_read.specs.Steps.{after, after_head, after_bound, after_column, after_entry_pair, after_value, after_value_pair, with_values_set}
 use Rattle.mps_model.specs.MpsModels.{IsRowName}
 use Rattle.mps_model.specs.declared.model.RowKind.{RowKind}
 use Rattle.mps_read.specs.declared.section.Section.{Section}
@@ -41,7 +42,7 @@ sectioned : (d : Draft) (section : Section) → IsReadable d → (nat_le 4 (rank
     → AreReadable (Some section) d.name d.objective d.constant d.rows d.row_names d.row_states d.kept d.cols d.column_names d.marks
 sectioned d section is begun = headed d (Some section) d.name is (record { name = is.header.name; row_name = is.header.row_name; begun = begun })
 
-head_readable : (d : Draft) (section : Section) (word : List ℕ) → IsReadable d → list_all is_visible word ≡ true → kind_of d (Head section word) ≡ None → IsReadable (after_head d section word)
+head_readable : (d : Draft) (section : Section) (word : List ℕ) → IsReadable d → list_all is_visible word ≡ true → draft_kind d (Head section word) ≡ None → IsReadable (after_head d section word)
 head_readable d Name word is visible a = headed d (Some Name) word is (record { name = name_is word visible (name_allowed d word a); row_name = is.header.row_name; begun = λ h. absurd (false≢true h) })
 head_readable d Objsense word is visible a = sectioned d Objsense is (λ h. absurd (false≢true h))
 head_readable d Rows word is visible a = sectioned d Rows is (λ h. absurd (false≢true h))
@@ -80,7 +81,7 @@ row_by false d kind name other new draft is row_name = record {
 -- entries
 
 entry_readable : (d e : Draft) (col : ℕ) (pair : Pair) → IsDraft d → IsReadable e → e.row_states ≡ d.row_states → e.kept ≡ d.kept
-    → (is_tested (place_of_pair d.row_names d.row_states pair) ≡ true → has_mark (place_among pair.row d.row_names) col e.marks ≡ false) → IsReadable (entered_pair d col pair e)
+    → (is_tested (place_of_pair d.row_names d.row_states pair) ≡ true → has_mark (place_among pair.row d.row_names) col e.marks ≡ false) → IsReadable (after_entry_pair d col pair e)
 entry_readable d e col pair draft is states kept unmarked =
     let row : ℕ = place_among pair.row d.row_names in
     let place : RowPlace = place_of_pair d.row_names d.row_states pair in
@@ -88,9 +89,9 @@ entry_readable d e col pair draft is states kept unmarked =
     (λ k at. subst (λ (n : ℕ). k < n) (sym kept) (placed_below d.kept k place (draft.placed row) at))
     (ap (λ ss. (state_at ss row).place) states) unmarked
 
-entries_readable : (d : Draft) (column : List ℕ) (first : Pair) (second : Option Pair) → IsDraft d → IsReadable (begun d column) → is_repeated_entry d (Entries column first second) ≡ false → IsReadable (after d (Entries column first second))
+entries_readable : (d : Draft) (column : List ℕ) (first : Pair) (second : Option Pair) → IsDraft d → IsReadable (after_column d column) → is_repeated_in d (Entries column first second) ≡ false → IsReadable (after d (Entries column first second))
 entries_readable d column first None draft is none =
-    entry_readable d (begun d column) (place_among column d.column_names) first draft is refl refl (λ tested. none)
+    entry_readable d (after_column d column) (place_among column d.column_names) first draft is refl refl (λ tested. none)
 entries_readable d column first (Some second) draft is none =
     let col : ℕ = place_among column d.column_names in
     let row : ℕ = place_among first.row d.row_names in
@@ -98,8 +99,8 @@ entries_readable d column first (Some second) draft is none =
     let place : RowPlace = place_of_pair d.row_names d.row_states first in
     let p = or_false (has_mark row col d.marks || has_mark row2 col d.marks) (row == row2 && is_tested place) none in
     let q = or_false (has_mark row col d.marks) (has_mark row2 col d.marks) p.0 in
-    entry_readable d (entered_pair d col first (begun d column)) col second draft
-    (entry_readable d (begun d column) col first draft is refl refl (λ tested. q.0)) refl refl
+    entry_readable d (after_entry_pair d col first (after_column d column)) col second draft
+    (entry_readable d (after_column d column) col first draft is refl refl (λ tested. q.0)) refl refl
     (λ tested. still_unmarked place row row2 col d.marks q.1 p.1)
 
 -- values and bounds
@@ -108,7 +109,7 @@ either : (b : Bool) (d e : Draft) → IsReadable d → IsReadable e → IsReadab
 either true d e first second = first
 either false d e first second = second
 
-given_readable : (d : Draft) (kind : ValueKind) (row : ℕ) (place : RowPlace) (value : Number) → IsDecimal value → IsReadable d → IsReadable (given kind row place value d)
+given_readable : (d : Draft) (kind : ValueKind) (row : ℕ) (place : RowPlace) (value : Number) → IsDecimal value → IsReadable d → IsReadable (after_value kind row place value d)
 given_readable d kind row place value v is = record {
   header = is.header;
   constant_is = constant_kept kind place value d.constant v is.constant_is;
@@ -118,7 +119,7 @@ given_readable d kind row place value v is = record {
   marked = value_marked kind row d.row_states d.cols d.marks is.marked;
 }
 
-given_pair_readable : (from d : Draft) (kind : ValueKind) (pair : Pair) → IsReadable d → IsReadable (given_pair from kind pair d)
+given_pair_readable : (from d : Draft) (kind : ValueKind) (pair : Pair) → IsReadable d → IsReadable (after_value_pair from kind pair d)
 given_pair_readable from d kind pair is =
     given_readable d kind (place_among pair.row from.row_names) (place_of_pair from.row_names from.row_states pair) (decimal_of pair.numeral) (decimal_of_is pair.numeral) is
 
@@ -128,12 +129,12 @@ set_readable d Range set is = is
 
 values_readable : (d : Draft) (kind : ValueKind) (set : List ℕ) (first : Pair) (second : Option Pair) → IsReadable d → IsReadable (after d (Values kind set first second))
 values_readable d kind set first None is =
-    either (is_used (values_use kind d).set set) (with_values_set kind set (given_pair d kind first d)) d
-    (set_readable (given_pair d kind first d) kind set (given_pair_readable d d kind first is)) is
+    either (is_used (values_use kind d).set set) (with_values_set kind set (after_value_pair d kind first d)) d
+    (set_readable (after_value_pair d kind first d) kind set (given_pair_readable d d kind first is)) is
 values_readable d kind set first (Some second) is =
-    either (is_used (values_use kind d).set set) (with_values_set kind set (given_pair d kind second (given_pair d kind first d))) d
-    (set_readable (given_pair d kind second (given_pair d kind first d)) kind set
-    (given_pair_readable d (given_pair d kind first d) kind second (given_pair_readable d d kind first is))) is
+    either (is_used (values_use kind d).set set) (with_values_set kind set (after_value_pair d kind second (after_value_pair d kind first d))) d
+    (set_readable (after_value_pair d kind second (after_value_pair d kind first d)) kind set
+    (given_pair_readable d (after_value_pair d kind first d) kind second (given_pair_readable d d kind first is))) is
 
 bound_readable : (d : Draft) (kind : BoundKind) (set column : List ℕ) (value : Number) → IsDecimal value → IsReadable d → IsReadable (after_bound d kind set column value)
 bound_readable d kind set column value v is = record {
@@ -147,7 +148,7 @@ bound_readable d kind set column value v is = record {
 
 -- every line
 
-pub after_readable : (d : Draft) (f : Form) → IsDraft d → IsReadable d → HasWords f → kind_of d f ≡ None → IsReadable (after d f)
+pub after_readable : (d : Draft) (f : Form) → IsDraft d → IsReadable d → HasWords f → draft_kind d f ≡ None → IsReadable (after d f)
 after_readable d Blank draft is words a = is
 after_readable d Spoilt draft is words a = is
 after_readable d (Head section word) draft is words a = head_readable d section word is words a

@@ -31,7 +31,7 @@ fresh_at (y ∷ front) x back h =
     let other : bytes_eq x y ≡ false = differ x y (λ e. front_apart [] y (front ++ x ∷ back) (length front) h (within front x back) (get_or_at front x back [] (length front) refl ∙ e)) in
     ap (λ b. b || is_among x front) other ∙ fresh_at front x back (tail_distinct [] y (front ++ x ∷ back) h)
 
-place_by : (b : Bool) (n m : ℕ) → b ≡ false → n ≡ m → cond (not b) (1 + n) 0 ≡ suc m
+pub place_by : (b : Bool) (n m : ℕ) → b ≡ false → n ≡ m → cond (not b) (1 + n) 0 ≡ suc m
 place_by b n m h is = rw (h, is) (omega arith)
 
 -- the place of the name of a number is that number

@@ -2,9 +2,9 @@ use Rattle.std.proofs.Common.{◌≡◌, ◌≤◌, ◌+◌, ℕ, Bool, true, fa
 use Rattle.std.specs.List.{list_all}
 use Rattle.ip_core.specs.Decimals.{Number}
 use Rattle.mps_model.specs.Numbers.{zero_decimal}
-use Rattle.mps_read.specs.Facts.{no_set}
+use Rattle.mps_read.specs.Drafts.{no_set}
 use Rattle.mps_model.specs.Prints.{fresh_row}
-use Rattle.mps_read.specs.Kinds.{has_mark}
+use Rattle.mps_read.specs.DraftKinds.{has_mark}
 use Rattle.mps_read.specs.Readings.{is_maximise}
 use Rattle.mps_model.specs.declared.model.Limit.TheVariants.{Unset}
 use Rattle.mps_model.specs.declared.model.MpsRow.{MpsRow}

@@ -7,7 +7,7 @@ use Rattle.ip_core.proofs.DecimalDigits.{and_true}
 use Rattle.mps_read.specs.Names.{is_among, place_among}
 use Rattle.mps_model.specs.Numbers.{zero_decimal, is_zero, is_zero_int}
 use Rattle.mps_model.specs.Prints.{fresh_row}
-use Rattle.mps_read.specs.RowFacts.{fresh, state_at}
+use Rattle.mps_read.specs.DraftRows.{fresh, state_at}
 use Rattle.mps_model.specs.MpsModels.{IsMpsModel, AreDistinct}
 use Rattle.mps_model.specs.Prints.{row_name}
 use Rattle.mps_model.specs.declared.model.RowKind.TheVariants.{Less}

@@ -1,6 +1,7 @@
 use Rattle.std.proofs.Common.{◌≡◌, ◌∙◌, ℕ, List, [], ◌∷◌, ◌++◌, false, codes, refl, sym, subst}
 use Rattle.std.proofs.lemmas.List.{append_assoc}
-use Rattle.mps_read.specs.Readings.{Read, reading, draft_of}
+use Rattle.mps_read.specs.Readings.{Read, reading}
+use Rattle.mps_read.specs.Drafts.{first_draft}
 use Rattle.mps_model.specs.MpsModels.{IsMpsModel}
 use Rattle.mps_model.specs.Prints.{data_line, name_line, sense_lines, row_lines, columns_lines, section_lines, sides_lines, range_lines, bound_lines, printed}
 use Rattle.mps_model.specs.declared.model.MpsModel.{MpsModel}
@@ -24,7 +25,7 @@ regrouped a b c d e f g h i j k =
     ∙ append_assoc a b (c ++ (d ++ (e ++ (f ++ (g ++ (h ++ (i ++ (j ++ k))))))))
 
 -- a printed text gives its model, from the draft before the first line on
-printed_back : (m : MpsModel) → IsMpsModel m → Gives (draft_of []) (printed m) (Read m)
+printed_back : (m : MpsModel) → IsMpsModel m → Gives first_draft (printed m) (Read m)
 printed_back m valid =
     let sides : List ℕ = section_lines (codes "RHS") (sides_lines m) in
     let ranges : List ℕ = section_lines (codes "RANGES") (range_lines m.rows) in
@@ -37,7 +38,7 @@ printed_back m valid =
     let text : printed m ≡ name_line m.name ++ (sense_lines m.maximise ++ from_rows) =
     regrouped (name_line m.name) (sense_lines m.maximise) (codes "ROWS\n") (data_line (codes "N" ∷ m.objective ∷ [])) (row_lines m.rows) (codes "COLUMNS\n") columns sides ranges bounds (codes "ENDATA\n")
     in
-    subst (λ (t : List ℕ). Gives (draft_of []) t (Read m)) (sym text)
+    subst (λ (t : List ℕ). Gives first_draft t (Read m)) (sym text)
     (name_back m.name (sense_lines m.maximise ++ from_rows) (Read m) valid.name
     (λ section early before plain. sense_back section m.name from_rows m.maximise (Read m) early before plain
     (λ s has_sense_line sense ranked given same. rows_section_back m valid from_columns (Read m) s has_sense_line sense ranked given same
@@ -51,4 +52,4 @@ printed_back m valid =
 
 -- reading a printed text gives its model again
 pub read_printed : (m : MpsModel) → IsMpsModel m → reading (printed m) ≡ Read m
-read_printed m valid = sym (begins (draft_of []) (printed m) refl) ∙ (printed_back m valid).each 1
+read_printed m valid = sym (begins first_draft (printed m) refl) ∙ (printed_back m valid).each 1

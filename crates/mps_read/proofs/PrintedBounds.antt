@@ -8,11 +8,12 @@ use Rattle.mps_read.specs.Names.{is_among, place_among}
 use Rattle.mps_read.specs.Numerals.{decimal_of}
 use Rattle.mps_read.specs.Lines.{words_of}
 use Rattle.mps_read.specs.Forms.{Head, BoundLine, words_form, has_numeral}
-use Rattle.mps_read.specs.Facts.{is_used, with_set, with_head}
-use Rattle.mps_read.specs.ColumnFacts.{fresh_column, low_limit, high_limit, bounded, with_bound}
-use Rattle.mps_read.specs.Kinds.{kind_of}
-use Rattle.mps_read.specs.Readings.{Reading, Read, outcome, model_of, name_or_empty, is_maximise}
-use Rattle.mps_read.specs.Steps.{after, after_head, after_bound, run}
+use Rattle.mps_read.specs.Sets.{is_used}
+use Rattle.mps_read.specs.Steps.{with_set, with_head, draft_model, after, after_head, after_bound, run}
+use Rattle.mps_read.specs.DraftColumns.{fresh_column, bounded_column, with_bound}
+use Rattle.mps_read.specs.Columns.{low_limit, high_limit}
+use Rattle.mps_read.specs.DraftKinds.{draft_kind}
+use Rattle.mps_read.specs.Readings.{Reading, Read, outcome, name_or_empty, is_maximise}
 use Rattle.mps_model.specs.MpsModels.{IsMpsModel, IsMpsCol, IsLow, IsHigh, AreDistinct}
 use Rattle.mps_model.specs.Prints.{data_line, section_lines, low_line, high_line, bound_lines}
 use Rattle.mps_model.specs.declared.model.Limit.{Limit}
@@ -74,7 +75,7 @@ between_is m valid done col todo names split same =
     }
 
 bound_kept : (m : MpsModel) (lines more : List ℕ) (done : List MpsCol) (col current : MpsCol) (todo : List MpsCol) (d : Draft) (kind : BoundKind) (value : Number) → is_nil lines ≡ false → InBounds m lines done col current todo d
-    → InBounds m more done col (bounded kind value current) todo (record d { cols = with_bound kind value (length done) d.cols; bounds = with_set (codes "BND") d.bounds })
+    → InBounds m more done col (bounded_column kind value current) todo (record d { cols = with_bound kind value (length done) d.cols; bounds = with_set (codes "BND") d.bounds })
 bound_kept m lines more done col current todo d kind value filled h = record {
   late = h.late;
   opened = λ some. h.opened filled;
@@ -83,8 +84,8 @@ bound_kept m lines more done col current todo d kind value filled h = record {
   rows = h.rows;
   cols =
       ap (with_bound kind value (length done)) h.cols
-      ∙ ap (λ c. slice_set (done ++ current ∷ map unbounded todo) (length done) (bounded kind value c)) (get_or_at done current (map unbounded todo) (fresh_column false []) (length done) refl)
-      ∙ set_at done current (map unbounded todo) (bounded kind value current) (length done) refl;
+      ∙ ap (λ c. slice_set (done ++ current ∷ map unbounded todo) (length done) (bounded_column kind value c)) (get_or_at done current (map unbounded todo) (fresh_column false []) (length done) refl)
+      ∙ set_at done current (map unbounded todo) (bounded_column kind value current) (length done) refl;
   same_constant = h.same_constant;
   used = still_used (codes "BND") d.bounds h.used;
 }
@@ -104,7 +105,7 @@ bound_after d kind name text value number used place is =
 valued_step : (m : MpsModel) → IsMpsModel m → (lines more : List ℕ) (done : List MpsCol) (col current : MpsCol) (todo : List MpsCol) (d : Draft) (kind : BoundKind) (word : List ℕ) (value : Number) (rest : List ℕ) (r : Reading)
     → is_word word ≡ true → words_form (Some Bounds) d.has_sense_line true (words_of (word ∷ codes "BND" ∷ col.name ∷ number_text value ∷ [])) ≡ BoundLine kind (codes "BND") col.name (number_text value)
     → has_numeral kind ≡ true → IsMpsCol (length m.rows) col → IsDecimal value → is_nil lines ≡ false → InBounds m lines done col current todo d
-    → ((e : Draft) → InBounds m more done col (bounded kind value current) todo e → Gives e rest r)
+    → ((e : Draft) → InBounds m more done col (bounded_column kind value current) todo e → Gives e rest r)
     → Gives d (data_line (word ∷ codes "BND" ∷ col.name ∷ number_text value ∷ []) ++ rest) r
 valued_step m valid lines more done col current todo d kind word value rest r is_kind form counts is decimal filled h next =
     let text : List ℕ = number_text value in
@@ -119,7 +120,7 @@ valued_step m valid lines more done col current todo d kind word value rest r is
 plain_step : (m : MpsModel) → IsMpsModel m → (lines more : List ℕ) (done : List MpsCol) (col current : MpsCol) (todo : List MpsCol) (d : Draft) (kind : BoundKind) (word rest : List ℕ) (r : Reading)
     → is_word word ≡ true → words_form (Some Bounds) d.has_sense_line true (words_of (word ∷ codes "BND" ∷ col.name ∷ [])) ≡ BoundLine kind (codes "BND") col.name []
     → has_numeral kind ≡ false → IsMpsCol (length m.rows) col → is_nil lines ≡ false → InBounds m lines done col current todo d
-    → ((e : Draft) → InBounds m more done col (bounded kind (decimal_of []) current) todo e → Gives e rest r)
+    → ((e : Draft) → InBounds m more done col (bounded_column kind (decimal_of []) current) todo e → Gives e rest r)
     → Gives d (data_line (word ∷ codes "BND" ∷ col.name ∷ []) ++ rest) r
 plain_step m valid lines more done col current todo d kind word rest r is_kind form counts is filled h next =
     let at : IsBetween d.column_names col.name (length done) = between_is m valid done col todo d.column_names h.split h.frame.same_columns in
@@ -245,10 +246,10 @@ pub bounds_section_back : (m : MpsModel) → IsMpsModel m → (rest : List ℕ) 
     → (d : Draft) → InRanges m [] m.rows [] d → Gives d (section_lines (codes "BOUNDS") (bound_lines m.cols) ++ rest) r
 bounds_section_back m valid rest r next d h =
     let unused : is_used d.bounds.set (codes "BND") ≡ true = ap (λ (u : SetUse). is_used u.set (codes "BND")) h.no_bounds in
-    let unbegun : d.bounds.begun ≡ false = ap (λ (u : SetUse). u.begun) h.no_bounds in
+    let unbegun : d.bounds.has_begun ≡ false = ap (λ (u : SetUse). u.has_begun) h.no_bounds in
     let ranked = h.late.ranked in
     let plain = h.late.plain in
-    let allowed : kind_of d (Head Bounds []) ≡ None = rw (ranked, unbegun, plain) refl in
+    let allowed : draft_kind d (Head Bounds []) ≡ None = rw (ranked, unbegun, plain) refl in
     section_back d Bounds (codes "BOUNDS") (bound_lines m.cols) rest r refl refl allowed refl
     (λ none. bounds_back m valid rest r m.cols [] valid.cols next d (ranges_ended m d.section d.bounds d h h.late unused (λ some. absurd (false≢true (sym some ∙ none)))))
     (bounds_back m valid rest r m.cols [] valid.cols next (after_head d Bounds []) (ranges_ended m (Some Bounds) (with_head d.bounds) d h (record { ranked = refl; plain = refl }) unused (λ some. refl)))
@@ -264,8 +265,8 @@ pub end_back : (m : MpsModel) (d : Draft) → IsWhole m d → Gives d (codes "EN
 end_back m d h =
     let ranked = h.late.ranked in
     let plain = h.late.plain in
-    let allowed : kind_of d (Head Endata []) ≡ None = rw (ranked, plain) refl in
-    let same : model_of d ≡ m =
+    let allowed : draft_kind d (Head Endata []) ≡ None = rw (ranked, plain) refl in
+    let same : draft_model d ≡ m =
     model_by m d.name (is_maximise d.maximise) (name_or_empty d.objective) d.constant d.rows d.cols h.frame.same_name h.frame.same_sense (ap name_or_empty h.frame.same_objective) h.same_constant h.rows h.cols
     in
-    record { each = λ n. ap (λ k. outcome k true n (Read (model_of d)) (run (after_head d Endata []) (n + 1) [])) allowed ∙ ap Read same }
+    record { each = λ n. ap (λ k. outcome k true n (Read (draft_model d)) (run (after_head d Endata []) (n + 1) [])) allowed ∙ ap Read same }

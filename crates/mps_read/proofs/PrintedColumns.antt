@@ -12,11 +12,11 @@ use Rattle.mps_read.specs.Numerals.{decimal_of}
 use Rattle.mps_read.specs.Lines.{words_of}
 use Rattle.mps_read.specs.Forms.{Pair, Head, Marker, Entries, form_of, words_form, marker_form, marker_word}
 use Rattle.mps_model.specs.Prints.{fresh_row}
-use Rattle.mps_read.specs.RowFacts.{state_at, place_of_pair}
-use Rattle.mps_read.specs.ColumnFacts.{fresh_column, column_at, with_entry, with_coefficient, with_mark}
-use Rattle.mps_read.specs.Kinds.{kind_of, has_mark}
+use Rattle.mps_read.specs.DraftRows.{state_at, place_of_pair}
+use Rattle.mps_read.specs.DraftColumns.{fresh_column, column_at, with_entry, with_coefficient, with_mark}
+use Rattle.mps_read.specs.DraftKinds.{draft_kind, has_mark}
 use Rattle.mps_read.specs.Readings.{Reading}
-use Rattle.mps_read.specs.Steps.{after, after_head, begun, entered, entered_pair}
+use Rattle.mps_read.specs.Steps.{after, after_head, after_column, after_entry, after_entry_pair}
 use Rattle.mps_model.specs.MpsModels.{IsMpsModel, IsMpsCol, IsMpsEntry, IsMpsRow, AreDistinct}
 use Rattle.mps_model.specs.Prints.{pair_line, marker_line, row_name, omits_cost, cost_line, entry_lines, column_lines, columns_lines}
 use Rattle.mps_model.specs.declared.model.RowKind.TheVariants.{Less}
@@ -88,7 +88,7 @@ pair_kept : (m : MpsModel) (col : MpsCol) (is_begun : Bool) (current next : MpsC
     → with_mark p i (length names) d.marks ≡ with_one i (length names) d.marks
     → with_coefficient p v (length names) (cols ++ current ∷ []) ≡ cols ++ next ∷ []
     → All (λ e. has_mark (suc e.row) (length names) (with_one i (length names) d.marks) ≡ false) rest
-    → InColumn m col true next names cols rest (entered i p (length names) v (begun d col.name))
+    → InColumn m col true next names cols rest (after_entry i p (length names) v (after_column d col.name))
 pair_kept m col is_begun current next names cols entries rest d i p v h marked coefficient here =
     let among : is_among col.name (with_name col.name d.column_names) ≡ true =
     ap (is_among col.name) h.known ∙ among_between names col.name []
@@ -115,7 +115,7 @@ pair_kept m col is_begun current next names cols entries rest d i p v h marked c
 pair_step : (m : MpsModel) (col : MpsCol) (is_begun : Bool) (current : MpsCol) (names : List (List ℕ)) (cols : List MpsCol) (entries : List MpsEntry) (d : Draft) (x : List ℕ) (i : ℕ) (p : RowPlace) (v : Number) (rest : List ℕ) (r : Reading)
     → IsMpsCol (length m.rows) col → InColumn m col is_begun current names cols entries d
     → IsRowOf d.row_names d.row_states x i p → is_word x ≡ true → x ≢ marker_word → IsDecimal v → has_mark i (length names) d.marks ≡ false
-    → Gives (entered i p (length names) v (begun d col.name)) rest r → Gives d (pair_line col.name x v ++ rest) r
+    → Gives (after_entry i p (length names) v (after_column d col.name)) rest r → Gives d (pair_line col.name x v ++ rest) r
 pair_step m col is_begun current names cols entries d x i p v rest r valid h is word unmarked decimal free next =
     let name : List ℕ = col.name in
     let text : List ℕ = number_text v in
@@ -128,12 +128,12 @@ pair_step m col is_begun current names cols entries d x i p v rest r valid h is 
     ap (λ k. has_mark k (place_among name d.column_names) d.marks) is.numbered ∙ ap (λ k. has_mark i k d.marks) h.place ∙ free
     in
     let place : place_of_pair d.row_names d.row_states pair ≡ p = ap (λ k. (state_at d.row_states k).place) is.numbered ∙ is.placed in
-    let e : Draft = entered i p (length names) v (begun d name) in
+    let e : Draft = after_entry i p (length names) v (after_column d name) in
     let same : after d (Entries name pair None) ≡ e =
-    ap (λ k. entered_pair d k pair (begun d name)) h.place
-    ∙ ap (λ k. entered k (place_of_pair d.row_names d.row_states pair) (length names) (decimal_of text) (begun d name)) is.numbered
-    ∙ ap (λ q. entered i q (length names) (decimal_of text) (begun d name)) place
-    ∙ ap (λ n. entered i p (length names) n (begun d name)) (value_is v decimal)
+    ap (λ k. after_entry_pair d k pair (after_column d name)) h.place
+    ∙ ap (λ k. after_entry k (place_of_pair d.row_names d.row_states pair) (length names) (decimal_of text) (after_column d name)) is.numbered
+    ∙ ap (λ q. after_entry i q (length names) (decimal_of text) (after_column d name)) place
+    ∙ ap (λ n. after_entry i p (length names) n (after_column d name)) (value_is v decimal)
     in
     data_step d e name (x ∷ text ∷ []) rest (Entries name pair None) r
     (three_words name x text (field_word name valid.name) word (number_word v decimal)) form
@@ -157,7 +157,7 @@ cost_back : (m : MpsModel) → IsMpsModel m → (col : MpsCol) (names : List (Li
     → (b : Bool) → omits_cost col ≡ b → Gives d ((if b then [] else pair_line col.name m.objective col.cost) ++ rest) r
 cost_back m valid col names cols d rest r is h free next false omitted =
     let row : IsRowOf d.row_names d.row_states m.objective 0 Objective = objective_row m d.row_names d.row_states valid h.rows.all_names h.rows.places in
-    let e : Draft = entered 0 Objective (length names) col.cost (begun d col.name) in
+    let e : Draft = after_entry 0 Objective (length names) col.cost (after_column d col.name) in
     let kept : InColumn m col true (costed col col.cost) names cols col.entries e =
     pair_kept m col false (costed col zero_decimal) (costed col col.cost) names cols col.entries col.entries d 0 Objective col.cost h refl
     (last_set cols (costed col zero_decimal) (length names) (λ c. record c { cost = col.cost }) h.count)
@@ -199,7 +199,7 @@ entries_back m valid col names cols rest r is next (entry ∷ todo) done is_begu
     let named : IsMpsRow (slice_index_or m.rows entry.row (fresh_row Less [])) =
     valid.rows entry.row (fresh_row Less []) one.known
     in
-    let e : Draft = entered (suc entry.row) (Kept entry.row) (length names) entry.value (begun d col.name) in
+    let e : Draft = after_entry (suc entry.row) (Kept entry.row) (length names) entry.value (after_column d col.name) in
     let apart : (k : ℕ) (other : MpsEntry) → k < length todo → suc entry.row ≡ suc (slice_index_or todo k other).row → ⊥ =
     λ k other l same. front_apart 0 entry.row (map (λ x. x.row) todo) k once (let long = length-map todo (λ (x : MpsEntry). x.row) in omega (arith, long, l))
     (get_or-map (λ (x : MpsEntry). x.row) todo k other 0 l ∙ (let s : (slice_index_or todo k other).row ≡ entry.row = omega (arith, same) in s))
@@ -313,7 +313,7 @@ pub columns_section_back : (m : MpsModel) → IsMpsModel m → (rest : List ℕ)
     → (d : Draft) → InRows m [] d → Gives d (codes "COLUMNS\n" ++ (columns_lines m.objective m.rows false m.cols ++ rest)) r
 columns_section_back m valid rest r next d h =
     let e : Draft = after_head d Columns [] in
-    let allowed : kind_of d (Head Columns []) ≡ None = rw (h.section, h.objective) refl in
+    let allowed : draft_kind d (Head Columns []) ≡ None = rw (h.section, h.objective) refl in
     let read : AreRead m d.row_names d.row_states d.objective d.rows = record {
       all_names = sym (append-nil d.row_names) ∙ h.names;
       places = sym (append-nil (map place_of d.row_states)) ∙ h.places;

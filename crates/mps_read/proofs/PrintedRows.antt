@@ -10,9 +10,11 @@ use Rattle.mps_read.specs.Names.{is_among, is_long, extended}
 use Rattle.mps_read.specs.Lines.{words_of, fields}
 use Rattle.mps_read.specs.Forms.{Head, SenseLine, FreeRow, KeptRow, Spoilt, form_of, words_form, marker_word}
 use Rattle.mps_model.specs.Prints.{fresh_row}
-use Rattle.mps_read.specs.RowFacts.{fresh}
-use Rattle.mps_read.specs.Kinds.{kind_of, rank_of, is_objsense}
-use Rattle.mps_read.specs.Readings.{Reading, draft_of, is_maximise}
+use Rattle.mps_read.specs.DraftRows.{fresh}
+use Rattle.mps_read.specs.DraftKinds.{draft_kind}
+use Rattle.mps_read.specs.Kinds.{rank_of, is_objsense}
+use Rattle.mps_read.specs.Readings.{Reading, is_maximise}
+use Rattle.mps_read.specs.Drafts.{first_draft}
 use Rattle.mps_read.specs.Steps.{after_free, after_row}
 use Rattle.mps_model.specs.MpsModels.{IsMpsModel, IsMpsRow, IsRowName, AreDistinct}
 use Rattle.mps_model.specs.Prints.{spaced, data_line, name_line, sense_lines, kind_word, row_line, row_lines}
@@ -34,11 +36,11 @@ use Rattle.mps_read.proofs.PrintPhases.{names_of, bare, place_of, places_from, i
 -- the draft before the rows
 abbrev pub opening : Option Section → Bool → List ℕ → Option Bool → Draft
 opening section has_sense_line name maximise =
-    record (draft_of []) { section = section; has_sense_line = has_sense_line; name = name; maximise = maximise }
+    record first_draft { section = section; has_sense_line = has_sense_line; name = name; maximise = maximise }
 
 pub name_back : (name rest : List ℕ) (r : Reading) → IsName name
     → ((section : Option Section) → nat_le (rank_of section) 1 ≡ true → nat_le (rank_of section) 2 ≡ true → is_objsense section ≡ false → Gives (opening section false name None) rest r)
-    → Gives (draft_of []) (name_line name ++ rest) r
+    → Gives first_draft (name_line name ++ rest) r
 name_back [] rest r valid next = next None refl refl refl
 name_back (b ∷ bs) rest r valid next =
     let name : List ℕ = b ∷ bs in
@@ -53,9 +55,9 @@ name_back (b ∷ bs) rest r valid next =
     ∙ ap (λ fs. words_form None false false (words_of fs)) (head_fields (codes "NAME") (name ∷ []) words)
     in
     let short : is_long name ≡ false = not_long name valid in
-    let allowed : kind_of (draft_of []) (Head Name name) ≡ None = rw short refl in
-    subst (λ (t : List ℕ). Gives (draft_of []) t r) (sym text)
-    (line_step (draft_of []) (opening (Some Name) false name None) line rest (Head Name name) r (head_line (codes "NAME") (name ∷ []) words) form allowed refl refl
+    let allowed : draft_kind first_draft (Head Name name) ≡ None = rw short refl in
+    subst (λ (t : List ℕ). Gives first_draft t r) (sym text)
+    (line_step first_draft (opening (Some Name) false name None) line rest (Head Name name) r (head_line (codes "NAME") (name ∷ []) words) form allowed refl refl
     (next (Some Name) refl refl refl))
 
 pub sense_back : (section : Option Section) (name rest : List ℕ) (maximise : Bool) (r : Reading) → nat_le (rank_of section) 1 ≡ true → nat_le (rank_of section) 2 ≡ true → is_objsense section ≡ false
@@ -63,7 +65,7 @@ pub sense_back : (section : Option Section) (name rest : List ℕ) (maximise : B
     → Gives (opening section false name None) (sense_lines maximise ++ rest) r
 sense_back section name rest false r early before plain next = next section false None before (ap (λ b. b && true) plain) refl
 sense_back section name rest true r early before plain next =
-    let allowed : kind_of (opening section false name None) (Head Objsense []) ≡ None = rw early refl in
+    let allowed : draft_kind (opening section false name None) (Head Objsense []) ≡ None = rw early refl in
     line_step (opening section false name None) (opening (Some Objsense) false name None) (codes "OBJSENSE") (codes " MAX\n" ++ rest) (Head Objsense []) r refl refl allowed refl refl
     (line_step (opening (Some Objsense) false name None) (opening (Some Objsense) true name (Some true)) (codes " MAX") rest (SenseLine (codes "MAX")) r refl refl refl refl refl
     (next (Some Objsense) true (Some true) refl refl refl))
@@ -139,10 +141,10 @@ pub rows_section_back : (m : MpsModel) → IsMpsModel m → (rest : List ℕ) (r
 rows_section_back m valid rest r section has_sense_line sense before plain maximise next =
     let d : Draft = opening (Some Rows) has_sense_line m.name sense in
     let e : Draft = after_free d m.objective in
-    let allowed : kind_of (opening section has_sense_line m.name sense) (Head Rows []) ≡ None = rw (before, plain) refl in
+    let allowed : draft_kind (opening section has_sense_line m.name sense) (Head Rows []) ≡ None = rw (before, plain) refl in
     let unmarked : bytes_eq m.objective marker_word ≡ false = differ m.objective marker_word valid.objective.unmarked in
     let short : is_long m.objective ≡ false = not_long m.objective valid.objective.field.is_name in
-    let free : kind_of d (FreeRow m.objective) ≡ None = rw (unmarked, short) refl in
+    let free : draft_kind d (FreeRow m.objective) ≡ None = rw (unmarked, short) refl in
     let begun : InRows m m.rows e = record {
       section = refl;
       header = record { same_name = refl; same_sense = maximise };

@@ -4,7 +4,7 @@ use Rattle.std.proofs.lemmas.Bool.{false≢true, ne_eqb}
 use Rattle.std.proofs.lemmas.Int.{ints}
 use Rattle.std.proofs.lemmas.List.{append_assoc, append-nil, length-append, map-append, length_push, get_or_at, set_at, length-map, map-set, set-get_or, get_or-set_other}
 use Rattle.std.proofs.lemmas.List.Elements.{All-head, All-tail}
-use Rattle.ip_core.specs.Decimals.{Number, IsDecimal, negation}
+use Rattle.ip_core.specs.Decimals.{Number, IsDecimal, negated}
 use Rattle.ip_core.specs.Prints.{number_text}
 use Rattle.ip_core.proofs.DecimalReduced.{negated_is}
 use Rattle.mps_read.specs.Names.{is_among, place_among, is_long}
@@ -12,12 +12,14 @@ use Rattle.mps_model.specs.Numbers.{zero_decimal, is_zero}
 use Rattle.mps_read.specs.Numerals.{is_numeral, decimal_of}
 use Rattle.mps_read.specs.Lines.{words_of, is_line_byte}
 use Rattle.mps_read.specs.Forms.{Pair, Head, Values, form_of, words_form, is_end}
-use Rattle.mps_read.specs.Facts.{no_set, is_used, first_given, with_set, with_head}
+use Rattle.mps_read.specs.Drafts.{no_set}
+use Rattle.mps_read.specs.Sets.{is_used, first_given}
+use Rattle.mps_read.specs.Steps.{with_set, with_head, after, after_head, after_value, after_value_pair, with_values_set}
 use Rattle.mps_model.specs.Prints.{fresh_row}
-use Rattle.mps_read.specs.RowFacts.{fresh, state_at, is_tested, with_value_mark, marked, with_marked, valued, place_of_pair}
-use Rattle.mps_read.specs.Kinds.{kind_of, rank_of, is_objsense, has_value, values_use}
+use Rattle.mps_read.specs.DraftRows.{fresh, state_at, is_tested, with_value_mark, marked_state, with_marked, valued_row, place_of_pair}
+use Rattle.mps_read.specs.DraftKinds.{draft_kind, has_value, values_use}
+use Rattle.mps_read.specs.Kinds.{rank_of, is_objsense}
 use Rattle.mps_read.specs.Readings.{Reading, is_maximise}
-use Rattle.mps_read.specs.Steps.{after, after_head, given, given_pair, with_values_set}
 use Rattle.mps_model.specs.MpsModels.{IsMpsModel, IsMpsRow, IsRange}
 use Rattle.mps_model.specs.Prints.{pair_line, nonzero_line, row_name, section_lines, side_lines, sides_lines, range_line, range_lines}
 use Rattle.mps_model.specs.declared.model.RowKind.TheVariants.{Less}
@@ -56,7 +58,7 @@ pub record IsLate (section : Option Section) : Type 0 where
   pub plain : is_objsense section ≡ false
 
 pub section_back : (d : Draft) (section : Section) (head lines rest : List ℕ) (r : Reading) → list_all is_line_byte head ≡ true → form_of d.section d.has_sense_line head ≡ Head section []
-    → kind_of d (Head section []) ≡ None → is_end (Head section []) ≡ false
+    → draft_kind d (Head section []) ≡ None → is_end (Head section []) ≡ false
     → (is_nil lines ≡ true → Gives d (lines ++ rest) r) → Gives (after_head d section []) (lines ++ rest) r
     → Gives d (section_lines head lines ++ rest) r
 section_back d section head [] rest r bytes form allowed more none full = none refl
@@ -82,14 +84,14 @@ value_form Side has_sense_line set x text = refl
 value_form Range has_sense_line set x text = refl
 
 value_allowed : (kind : ValueKind) (d : Draft) (set : List ℕ) (pair : Pair) → is_used (values_use kind d).set set ≡ true → is_numeral pair.numeral ≡ true
-    → is_among pair.row d.row_names ≡ true → has_value kind (state_at d.row_states (place_among pair.row d.row_names)) ≡ false → is_long set ≡ false → kind_of d (Values kind set pair None) ≡ None
+    → is_among pair.row d.row_names ≡ true → has_value kind (state_at d.row_states (place_among pair.row d.row_names)) ≡ false → is_long set ≡ false → draft_kind d (Values kind set pair None) ≡ None
 value_allowed Side d set pair used numeral known free short = side_allowed d set pair used numeral known free short
 value_allowed Range d set pair used numeral known free short = range_allowed d set pair used numeral known free short
 
 value_step : (kind : ValueKind) (d : Draft) (set x : List ℕ) (i : ℕ) (p : RowPlace) (v : Number) (rest : List ℕ) (r : Reading)
     → d.section ≡ Some (section_for kind) → is_used (values_use kind d).set set ≡ true → is_word set ≡ true → is_long set ≡ false
     → IsRowOf d.row_names d.row_states x i p → is_word x ≡ true → IsDecimal v → has_value kind (state_at d.row_states i) ≡ false
-    → Gives (with_values_set kind set (given kind i p v d)) rest r → Gives d (pair_line set x v ++ rest) r
+    → Gives (with_values_set kind set (after_value kind i p v d)) rest r → Gives d (pair_line set x v ++ rest) r
 value_step kind d set x i p v rest r section used set_word short is word decimal free next =
     let text : List ℕ = number_text v in
     let pair : Pair = record { row = x; numeral = text } in
@@ -98,12 +100,12 @@ value_step kind d set x i p v rest r section used set_word short is word decimal
     in
     let free_here : has_value kind (state_at d.row_states (place_among x d.row_names)) ≡ false = ap (λ k. has_value kind (state_at d.row_states k)) is.numbered ∙ free in
     let place : place_of_pair d.row_names d.row_states pair ≡ p = ap (λ k. (state_at d.row_states k).place) is.numbered ∙ is.placed in
-    let e : Draft = with_values_set kind set (given kind i p v d) in
+    let e : Draft = with_values_set kind set (after_value kind i p v d) in
     let same : after d (Values kind set pair None) ≡ e =
-    ap (λ b. if b then with_values_set kind set (given_pair d kind pair d) else d) used
-    ∙ ap (λ k. with_values_set kind set (given kind k (place_of_pair d.row_names d.row_states pair) (decimal_of text) d)) is.numbered
-    ∙ ap (λ q. with_values_set kind set (given kind i q (decimal_of text) d)) place
-    ∙ ap (λ n. with_values_set kind set (given kind i p n d)) (value_is v decimal)
+    ap (λ b. if b then with_values_set kind set (after_value_pair d kind pair d) else d) used
+    ∙ ap (λ k. with_values_set kind set (after_value kind k (place_of_pair d.row_names d.row_states pair) (decimal_of text) d)) is.numbered
+    ∙ ap (λ q. with_values_set kind set (after_value kind i q (decimal_of text) d)) place
+    ∙ ap (λ n. with_values_set kind set (after_value kind i p n d)) (value_is v decimal)
     in
     data_step d e set (x ∷ text ∷ []) rest (Values kind set pair None) r (three_words set x text set_word word (number_word v decimal)) form
     (value_allowed kind d set pair used (numeral_is v decimal) is.known free_here short) refl same next
@@ -118,9 +120,9 @@ still_used set u h = ap (λ t. is_used ((if t then (record u { set = first_given
 
 -- Marks of values.
 
-map_marked : {A : Type 0} (f : RowState → A) (kind : ValueKind) (k : ℕ) (states : List RowState) → ((s : RowState) → f (marked kind s) ≡ f s) → map f (with_marked kind k states) ≡ map f states
+map_marked : {A : Type 0} (f : RowState → A) (kind : ValueKind) (k : ℕ) (states : List RowState) → ((s : RowState) → f (marked_state kind s) ≡ f s) → map f (with_marked kind k states) ≡ map f states
 map_marked f kind k states same =
-    map-set f states k (marked kind (state_at states k))
+    map-set f states k (marked_state kind (state_at states k))
     ∙ ap (slice_set (map f states) k) (same (state_at states k) ∙ sym (read_map f states k (fresh Dropped)))
     ∙ set-get_or (map f states) k (f (fresh Dropped))
 
@@ -146,7 +148,7 @@ ranges_marked k i states =
     ∙ read_map range_mark states i (fresh Dropped)
 
 other_state : (kind : ValueKind) (k i : ℕ) (states : List RowState) → k < i → state_at (with_marked kind k states) i ≡ state_at states i
-other_state kind k i states l = get_or-set_other states k i (marked kind (state_at states k)) (fresh Dropped) (λ e. omega (arith, l, e))
+other_state kind k i states l = get_or-set_other states k i (marked_state kind (state_at states k)) (fresh Dropped) (λ e. omega (arith, l, e))
 
 -- a change between two lists
 middle_set : {A : Type 0} (front : List A) (x : A) (back : List A) (n : ℕ) (d : A) (f : A → A) → length front ≡ n
@@ -217,7 +219,7 @@ between_is m valid done row todo names states all same places =
 -- Right-hand sides.
 
 side_kept : (m : MpsModel) (row : MpsRow) (todo done : List MpsRow) (d : Draft) (lines : List ℕ) → is_nil lines ≡ false → InSides m lines done (row ∷ todo) (suc (length done)) m.constant d
-    → InSides m (side_lines todo) (done ++ row ∷ []) todo (suc (length (done ++ row ∷ []))) m.constant (with_values_set Side (codes "RHS") (given Side (suc (length done)) (Kept (length done)) row.rhs d))
+    → InSides m (side_lines todo) (done ++ row ∷ []) todo (suc (length (done ++ row ∷ []))) m.constant (with_values_set Side (codes "RHS") (after_value Side (suc (length done)) (Kept (length done)) row.rhs d))
 side_kept m row todo done d lines filled h =
     let long : length (done ++ row ∷ []) ≡ length done + 1 = length_push done row in
     record {
@@ -229,8 +231,8 @@ side_kept m row todo done d lines filled h =
       sides = λ i l. ap (λ (s : RowState). s.has_side) (other_state Side (suc (length done)) i d.row_states (omega (arith, long, l))) ∙ h.sides i (omega (arith, long, l));
       ranges = λ i. ranges_marked (suc (length done)) i d.row_states ∙ h.ranges i;
       rows =
-          ap (λ rows. slice_set rows (length done) (valued Side row.rhs (slice_index_or rows (length done) (fresh_row Less [])))) h.rows
-          ∙ middle_set (map unranged done) (bare row) (map bare todo) (length done) (fresh_row Less []) (valued Side row.rhs) (length-map done unranged)
+          ap (λ rows. slice_set rows (length done) (valued_row Side row.rhs (slice_index_or rows (length done) (fresh_row Less [])))) h.rows
+          ∙ middle_set (map unranged done) (bare row) (map bare todo) (length done) (fresh_row Less []) (valued_row Side row.rhs) (length-map done unranged)
           ∙ moved unranged bare done row todo (unranged row) refl;
       cols = h.cols;
       same_constant = h.same_constant;
@@ -270,7 +272,7 @@ side_line_back m valid rest r row todo done is next d h false nonzero =
     let filled : is_nil (side_lines (row ∷ todo)) ≡ false = ap (λ b. is_nil ((if b then [] else pair_line (codes "RHS") row.name row.rhs) ++ side_lines todo)) nonzero in
     value_step Side d (codes "RHS") row.name (suc (length done)) (Kept (length done)) row.rhs rest r (h.opened filled) h.used refl refl
     (between_is m valid done row todo d.row_names d.row_states h.split h.frame.same_rows h.places) (field_word row.name is.name.field) is.side (h.sides (suc (length done)) (omega arith))
-    (next (with_values_set Side (codes "RHS") (given Side (suc (length done)) (Kept (length done)) row.rhs d)) (side_kept m row todo done d (side_lines (row ∷ todo)) filled h))
+    (next (with_values_set Side (codes "RHS") (after_value Side (suc (length done)) (Kept (length done)) row.rhs d)) (side_kept m row todo done d (side_lines (row ∷ todo)) filled h))
 
 sides_back : (m : MpsModel) → IsMpsModel m → (rest : List ℕ) (r : Reading) → (todo done : List MpsRow) → All IsMpsRow todo
     → ((d : Draft) → InSides m [] m.rows [] (suc (length m.rows)) m.constant d → Gives d rest r)
@@ -291,19 +293,19 @@ twice_is k = neg_ℤ (neg_ℤ k) ≡ k
 negated_twice : (k : ℤ) → twice_is k
 negated_twice k = omega (arith, ints)
 
-negated_decimal : (n : Number) → IsDecimal n → IsDecimal (negation n)
+negated_decimal : (n : Number) → IsDecimal n → IsDecimal (negated n)
 negated_decimal n h =
     let e : pos 0 -ℤ n.mantissa ≡ neg_ℤ n.mantissa = omega (arith, ints) in
     subst (λ (k : ℤ). IsDecimal (record { mantissa = k; exponent = n.exponent })) e (negated_is n.mantissa n.exponent h)
 
-turned_back : (n : Number) → negation (negation n) ≡ n
+turned_back : (n : Number) → negated (negated n) ≡ n
 turned_back n = ap (λ k. record { mantissa = k; exponent = n.exponent }) (negated_twice n.mantissa)
 
-constant_zero : (n : Number) → IsDecimal n → is_zero (negation n) ≡ true → zero_decimal ≡ n
-constant_zero n h none = sym (ap negation (zero_is (negation n) (negated_decimal n h) none)) ∙ turned_back n
+constant_zero : (n : Number) → IsDecimal n → is_zero (negated n) ≡ true → zero_decimal ≡ n
+constant_zero n h none = sym (ap negated (zero_is (negated n) (negated_decimal n h) none)) ∙ turned_back n
 
 constant_kept : (m : MpsModel) (d : Draft) (lines : List ℕ) → is_nil lines ≡ false → InSides m lines [] m.rows 0 zero_decimal d
-    → InSides m (side_lines m.rows) [] m.rows 1 m.constant (with_values_set Side (codes "RHS") (given Side 0 Objective (negation m.constant) d))
+    → InSides m (side_lines m.rows) [] m.rows 1 m.constant (with_values_set Side (codes "RHS") (after_value Side 0 Objective (negated m.constant) d))
 constant_kept m d lines filled h = record {
   late = h.late;
   opened = λ more. h.opened filled;
@@ -340,20 +342,20 @@ constant_skipped m d lines filled same h = record {
 
 constant_back : (m : MpsModel) → IsMpsModel m → (rest : List ℕ) (r : Reading) → ((e : Draft) → InSides m (side_lines m.rows) [] m.rows 1 m.constant e → Gives e rest r)
     → (d : Draft) → InSides m (sides_lines m) [] m.rows 0 zero_decimal d
-    → (b : Bool) → is_zero (negation m.constant) ≡ b → Gives d ((if b then [] else pair_line (codes "RHS") m.objective (negation m.constant)) ++ rest) r
+    → (b : Bool) → is_zero (negated m.constant) ≡ b → Gives d ((if b then [] else pair_line (codes "RHS") m.objective (negated m.constant)) ++ rest) r
 constant_back m valid rest r next d h true none =
-    next d (constant_skipped m d (sides_lines m) (more_filled (nonzero_line (codes "RHS") m.objective (negation m.constant)) (side_lines m.rows)) (constant_zero m.constant valid.constant none) h)
+    next d (constant_skipped m d (sides_lines m) (more_filled (nonzero_line (codes "RHS") m.objective (negated m.constant)) (side_lines m.rows)) (constant_zero m.constant valid.constant none) h)
 constant_back m valid rest r next d h false some =
-    let filled : is_nil (sides_lines m) ≡ false = ap (λ b. is_nil ((if b then [] else pair_line (codes "RHS") m.objective (negation m.constant)) ++ side_lines m.rows)) some in
-    value_step Side d (codes "RHS") m.objective 0 Objective (negation m.constant) rest r (h.opened filled) h.used refl refl
+    let filled : is_nil (sides_lines m) ≡ false = ap (λ b. is_nil ((if b then [] else pair_line (codes "RHS") m.objective (negated m.constant)) ++ side_lines m.rows)) some in
+    value_step Side d (codes "RHS") m.objective 0 Objective (negated m.constant) rest r (h.opened filled) h.used refl refl
     (objective_row m d.row_names d.row_states valid h.frame.same_rows h.places) (field_word m.objective valid.objective.field) (negated_decimal m.constant valid.constant) (h.sides 0 (omega arith))
-    (next (with_values_set Side (codes "RHS") (given Side 0 Objective (negation m.constant) d)) (constant_kept m d (sides_lines m) filled h))
+    (next (with_values_set Side (codes "RHS") (after_value Side 0 Objective (negated m.constant) d)) (constant_kept m d (sides_lines m) filled h))
 
 all_sides_back : (m : MpsModel) → IsMpsModel m → (rest : List ℕ) (r : Reading) → ((d : Draft) → InSides m [] m.rows [] (suc (length m.rows)) m.constant d → Gives d rest r)
     → (d : Draft) → InSides m (sides_lines m) [] m.rows 0 zero_decimal d → Gives d (sides_lines m ++ rest) r
 all_sides_back m valid rest r next d h =
-    subst (λ (t : List ℕ). Gives d t r) (sym (append_assoc (nonzero_line (codes "RHS") m.objective (negation m.constant)) (side_lines m.rows) rest))
-    (constant_back m valid (side_lines m.rows ++ rest) r (sides_back m valid rest r m.rows [] valid.rows next) d h (is_zero (negation m.constant)) refl)
+    subst (λ (t : List ℕ). Gives d t r) (sym (append_assoc (nonzero_line (codes "RHS") m.objective (negated m.constant)) (side_lines m.rows) rest))
+    (constant_back m valid (side_lines m.rows ++ rest) r (sides_back m valid rest r m.rows [] valid.rows next) d h (is_zero (negated m.constant)) refl)
 
 -- the draft after the columns
 columns_ended : (m : MpsModel) (section : Option Section) (rhs : SetUse) (d : Draft) → InColumns m false [] d → IsLate section → is_used rhs.set (codes "RHS") ≡ true → (is_nil (sides_lines m) ≡ false → section ≡ Some Rhs)
@@ -388,8 +390,8 @@ pub sides_section_back : (m : MpsModel) → IsMpsModel m → (rest : List ℕ) (
     → (d : Draft) → InColumns m false [] d → Gives d (section_lines (codes "RHS") (sides_lines m) ++ rest) r
 sides_section_back m valid rest r next d h =
     let unused : is_used d.rhs.set (codes "RHS") ≡ true = ap (λ (u : SetUse). is_used u.set (codes "RHS")) h.values.no_rhs in
-    let unbegun : d.rhs.begun ≡ false = ap (λ (u : SetUse). u.begun) h.values.no_rhs in
-    let allowed : kind_of d (Head Rhs []) ≡ None = rw (h.section, unbegun) refl in
+    let unbegun : d.rhs.has_begun ≡ false = ap (λ (u : SetUse). u.has_begun) h.values.no_rhs in
+    let allowed : draft_kind d (Head Rhs []) ≡ None = rw (h.section, unbegun) refl in
     section_back d Rhs (codes "RHS") (sides_lines m) rest r refl refl allowed refl
     (λ none. all_sides_back m valid rest r next d
     (columns_ended m d.section d.rhs d h (late_at d.section (Some Columns) h.section (record { ranked = refl; plain = refl })) unused (λ some. absurd (false≢true (sym some ∙ none)))))
@@ -399,7 +401,7 @@ sides_section_back m valid rest r next d h =
 -- Ranges.
 
 range_kept : (m : MpsModel) (row : MpsRow) (todo done : List MpsRow) (d : Draft) (lines : List ℕ) (range : Number) → row.range ≡ Some range → is_nil lines ≡ false → InRanges m lines done (row ∷ todo) d
-    → InRanges m (range_lines todo) (done ++ row ∷ []) todo (with_values_set Range (codes "RNG") (given Range (suc (length done)) (Kept (length done)) range d))
+    → InRanges m (range_lines todo) (done ++ row ∷ []) todo (with_values_set Range (codes "RNG") (after_value Range (suc (length done)) (Kept (length done)) range d))
 range_kept m row todo done d lines range has filled h =
     let long : length (done ++ row ∷ []) ≡ length done + 1 = length_push done row in
     record {
@@ -410,8 +412,8 @@ range_kept m row todo done d lines range has filled h =
       places = places_marked Range (suc (length done)) d.row_states ∙ h.places;
       ranges = λ i l. ap (λ (s : RowState). s.has_range) (other_state Range (suc (length done)) i d.row_states (omega (arith, long, l))) ∙ h.ranges i (omega (arith, long, l));
       rows =
-          ap (λ rows. slice_set rows (length done) (valued Range range (slice_index_or rows (length done) (fresh_row Less [])))) h.rows
-          ∙ middle_set done (unranged row) (map unranged todo) (length done) (fresh_row Less []) (valued Range range) refl
+          ap (λ rows. slice_set rows (length done) (valued_row Range range (slice_index_or rows (length done) (fresh_row Less [])))) h.rows
+          ∙ middle_set done (unranged row) (map unranged todo) (length done) (fresh_row Less []) (valued_row Range range) refl
           ∙ ap (λ v. done ++ (record row { range = v }) ∷ map unranged todo) (sym has)
           ∙ sym (append_assoc done (row ∷ []) (map unranged todo));
       cols = h.cols;
@@ -451,7 +453,7 @@ range_line_back m valid rest r row todo done is next d h (Some range) some decim
     let filled : is_nil (range_lines (row ∷ todo)) ≡ false = ap (λ v. is_nil (range_line row.name v ++ range_lines todo)) some in
     value_step Range d (codes "RNG") row.name (suc (length done)) (Kept (length done)) range rest r (h.opened filled) h.used refl refl
     (between_is m valid done row todo d.row_names d.row_states h.split h.frame.same_rows h.places) (field_word row.name is.name.field) decimal (h.ranges (suc (length done)) (omega arith))
-    (next (with_values_set Range (codes "RNG") (given Range (suc (length done)) (Kept (length done)) range d)) (range_kept m row todo done d (range_lines (row ∷ todo)) range some filled h))
+    (next (with_values_set Range (codes "RNG") (after_value Range (suc (length done)) (Kept (length done)) range d)) (range_kept m row todo done d (range_lines (row ∷ todo)) range some filled h))
 
 ranges_back : (m : MpsModel) → IsMpsModel m → (rest : List ℕ) (r : Reading) → (todo done : List MpsRow) → All IsMpsRow todo
     → ((d : Draft) → InRanges m [] m.rows [] d → Gives d rest r) → (d : Draft) → InRanges m (range_lines todo) done todo d → Gives d (range_lines todo ++ rest) r
@@ -484,10 +486,10 @@ pub ranges_section_back : (m : MpsModel) → IsMpsModel m → (rest : List ℕ) 
     → (d : Draft) → InSides m [] m.rows [] (suc (length m.rows)) m.constant d → Gives d (section_lines (codes "RANGES") (range_lines m.rows) ++ rest) r
 ranges_section_back m valid rest r next d h =
     let unused : is_used d.ranges.set (codes "RNG") ≡ true = ap (λ (u : SetUse). is_used u.set (codes "RNG")) h.no_ranges in
-    let unbegun : d.ranges.begun ≡ false = ap (λ (u : SetUse). u.begun) h.no_ranges in
+    let unbegun : d.ranges.has_begun ≡ false = ap (λ (u : SetUse). u.has_begun) h.no_ranges in
     let ranked = h.late.ranked in
     let plain = h.late.plain in
-    let allowed : kind_of d (Head Ranges []) ≡ None = rw (ranked, unbegun, plain) refl in
+    let allowed : draft_kind d (Head Ranges []) ≡ None = rw (ranked, unbegun, plain) refl in
     section_back d Ranges (codes "RANGES") (range_lines m.rows) rest r refl refl allowed refl
     (λ none. ranges_back m valid rest r m.rows [] valid.rows next d (sides_ended m d.section d.ranges d h h.late unused (λ some. absurd (false≢true (sym some ∙ none)))))
     (ranges_back m valid rest r m.rows [] valid.rows next (after_head d Ranges []) (sides_ended m (Some Ranges) (with_head d.ranges) d h (record { ranked = refl; plain = refl }) unused (λ some. refl)))

@@ -1,10 +1,39 @@
 -- What holds of each draft.
-use Rattle.std.specs.Prelude.{ℕ, ◌+◌, ◌≡◌, ◌≤◌, ◌<◌, ◌==◌, List, length, slice_index_or}
-use Rattle.mps_read.specs.Kinds.{has_mark}
-use Rattle.mps_read.specs.RowFacts.{state_at}
+use Rattle.std.specs.Prelude.{ℕ, ◌+◌, ◌≡◌, ◌≤◌, ◌<◌, ◌==◌, false, List, [], None, length, slice_index_or}
+use Rattle.mps_model.specs.Numbers.{zero_decimal}
+use Rattle.mps_read.specs.DraftKinds.{has_mark}
+use Rattle.mps_read.specs.DraftRows.{state_at}
 use Rattle.mps_read.specs.declared.draft.Draft.{Draft}
+use Rattle.mps_read.specs.declared.draft.SetUse.{SetUse}
 use Rattle.mps_read.specs.declared.draft.RowPlace.{RowPlace}
 use Rattle.mps_read.specs.declared.draft.RowPlace.TheVariants.{Objective, Dropped, Kept}
+
+-- a section that has not begun
+abbrev pub no_set : SetUse
+no_set = record { has_begun = false; set = None }
+
+-- the draft before the first line
+abbrev pub first_draft : Draft
+first_draft = record {
+  section = None;
+  has_sense_line = false;
+  name = [];
+  maximise = None;
+  row_names = [];
+  row_states = [];
+  objective = None;
+  kept = 0;
+  rows = [];
+  column_names = [];
+  cols = [];
+  is_integer = false;
+  marks = [];
+  latest = [];
+  constant = zero_decimal;
+  rhs = no_set;
+  ranges = no_set;
+  bounds = no_set;
+}
 
 -- a place names one of the kept rows, if it names a row
 abbrev pub IsPlaced : ℕ → RowPlace → Type 0

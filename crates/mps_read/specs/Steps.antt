@@ -1,25 +1,41 @@
 -- The reader's own way over the lines: it keeps a draft in place of the lines.
-use Rattle.std.specs.Prelude.{ℕ, ◌+◌, true, List, [], ◌∷◌, Some, if◌then◌else◌}
+use Rattle.std.specs.Prelude.{ℕ, ◌+◌, true, List, [], ◌∷◌, Option, Some, None, if◌then◌else◌}
 use Rattle.ip_core.specs.Decimals.{Number}
 use Rattle.mps_read.specs.Names.{is_among, place_among, extended, with_name}
 use Rattle.mps_read.specs.Numerals.{decimal_of}
 use Rattle.mps_read.specs.Forms.{Form, Pair, Blank, Spoilt, Head, UnknownHead, Stray, Miscounted, SenseLine, FreeRow, KeptRow, UntypedRow, Marker, UnknownMarker, Entries, Values, BoundLine, UntypedBound, form_of, is_end}
-use Rattle.mps_read.specs.Facts.{after_pairs, sense_named, first_given, is_used, with_head, with_set}
+use Rattle.mps_read.specs.Headers.{sense_named}
+use Rattle.mps_read.specs.Sets.{first_given, is_used}
 use Rattle.mps_model.specs.Prints.{fresh_row}
-use Rattle.mps_read.specs.RowFacts.{fresh, free_place, with_marked, with_value, with_constant, place_of_pair}
-use Rattle.mps_read.specs.ColumnFacts.{fresh_column, with_coefficient, with_bound, with_mark, with_latest}
-use Rattle.mps_read.specs.Kinds.{kind_of, values_use}
-use Rattle.mps_read.specs.Readings.{Reading, Read, RefusedAt, outcome, model_of}
+use Rattle.mps_read.specs.DraftRows.{fresh, free_place, with_marked, with_value, with_constant, place_of_pair}
+use Rattle.mps_read.specs.DraftColumns.{fresh_column, with_coefficient, with_bound, with_mark, with_latest}
+use Rattle.mps_read.specs.DraftKinds.{draft_kind, values_use}
+use Rattle.mps_read.specs.Readings.{Reading, Read, RefusedAt, outcome, is_maximise, name_or_empty}
 use Rattle.mps_read.specs.declared.error.MpsKind.TheVariants.{NoEndata}
 use Rattle.mps_model.specs.declared.model.RowKind.{RowKind}
+use Rattle.mps_model.specs.declared.model.MpsModel.{MpsModel}
 use Rattle.mps_read.specs.declared.section.Section.{Section}
 use Rattle.mps_read.specs.declared.section.Section.TheVariants.{Name, Objsense, Rows, Columns, Rhs, Ranges, Bounds, Endata}
 use Rattle.mps_read.specs.declared.section.ValueKind.{ValueKind}
 use Rattle.mps_read.specs.declared.section.ValueKind.TheVariants.{Side, Range}
 use Rattle.mps_read.specs.declared.section.BoundKind.{BoundKind}
 use Rattle.mps_read.specs.declared.draft.Draft.{Draft}
+use Rattle.mps_read.specs.declared.draft.SetUse.{SetUse}
 use Rattle.mps_read.specs.declared.draft.RowPlace.{RowPlace}
 use Rattle.mps_read.specs.declared.draft.RowPlace.TheVariants.{Kept}
+
+-- a value after the first pair, and after the second if there is one
+abbrev pub after_pairs : {A : Type 0} → (Pair → A → A) → Pair → Option Pair → A → A
+after_pairs change first None value = change first value
+after_pairs change first (Some second) value = change second (change first value)
+
+-- the section began
+abbrev pub with_head : SetUse → SetUse
+with_head u = record u { has_begun = true }
+
+-- the section after a data line of a set
+abbrev pub with_set : List ℕ → SetUse → SetUse
+with_set set u = if is_used u.set set then record u { set = first_given u.set set } else u
 
 -- the draft after a section line
 abbrev pub after_head : Draft → Section → List ℕ → Draft
@@ -53,17 +69,17 @@ after_row d kind name =
       latest = extended (is_among name d.row_names) 0 d.latest;
     }
 
--- with a column, which is begun where it is new
-abbrev pub begun : Draft → List ℕ → Draft
-begun d column =
+-- with a column, where it is new
+abbrev pub after_column : Draft → List ℕ → Draft
+after_column d column =
     record d {
       column_names = with_name column d.column_names;
       cols = extended (is_among column d.column_names) (fresh_column d.is_integer column) d.cols;
     }
 
 -- with an entry: of the row of a name's number in the column of a number
-abbrev pub entered : ℕ → RowPlace → ℕ → Number → Draft → Draft
-entered row place col value d =
+abbrev pub after_entry : ℕ → RowPlace → ℕ → Number → Draft → Draft
+after_entry row place col value d =
     record d {
       cols = with_coefficient place value col d.cols;
       marks = with_mark place row col d.marks;
@@ -71,13 +87,13 @@ entered row place col value d =
     }
 
 -- the same for a pair of a line
-abbrev pub entered_pair : Draft → ℕ → Pair → Draft → Draft
-entered_pair from col pair d =
-    entered (place_among pair.row from.row_names) (place_of_pair from.row_names from.row_states pair) col (decimal_of pair.numeral) d
+abbrev pub after_entry_pair : Draft → ℕ → Pair → Draft → Draft
+after_entry_pair from col pair d =
+    after_entry (place_among pair.row from.row_names) (place_of_pair from.row_names from.row_states pair) col (decimal_of pair.numeral) d
 
 -- with a right-hand side or a range of the row of a name's number
-abbrev pub given : ValueKind → ℕ → RowPlace → Number → Draft → Draft
-given kind row place value d =
+abbrev pub after_value : ValueKind → ℕ → RowPlace → Number → Draft → Draft
+after_value kind row place value d =
     record d {
       row_states = with_marked kind row d.row_states;
       rows = with_value kind place value d.rows;
@@ -85,9 +101,9 @@ given kind row place value d =
     }
 
 -- the same for a pair of a line
-abbrev pub given_pair : Draft → ValueKind → Pair → Draft → Draft
-given_pair from kind pair d =
-    given kind (place_among pair.row from.row_names) (place_of_pair from.row_names from.row_states pair) (decimal_of pair.numeral) d
+abbrev pub after_value_pair : Draft → ValueKind → Pair → Draft → Draft
+after_value_pair from kind pair d =
+    after_value kind (place_among pair.row from.row_names) (place_of_pair from.row_names from.row_states pair) (decimal_of pair.numeral) d
 
 -- with the set of a section named, where it has none
 abbrev pub with_values_set : ValueKind → List ℕ → Draft → Draft
@@ -117,18 +133,29 @@ after d UntypedRow = d
 after d (Marker is_integer) = record d { is_integer = is_integer }
 after d UnknownMarker = d
 after d (Entries column first second) =
-    after_pairs (entered_pair d (place_among column d.column_names)) first second (begun d column)
+    after_pairs (after_entry_pair d (place_among column d.column_names)) first second (after_column d column)
 after d (Values kind set first second) =
     if is_used (values_use kind d).set set
-    then with_values_set kind set (after_pairs (given_pair d kind) first second d)
+    then with_values_set kind set (after_pairs (after_value_pair d kind) first second d)
     else d
 after d (BoundLine kind set column numeral) =
     if is_used d.bounds.set set then after_bound d kind set column (decimal_of numeral) else d
 after d UntypedBound = d
+
+-- the model of what was read
+abbrev pub draft_model : Draft → MpsModel
+draft_model d = record {
+  name = d.name;
+  maximise = is_maximise d.maximise;
+  objective = name_or_empty d.objective;
+  constant = d.constant;
+  rows = d.rows;
+  cols = d.cols;
+}
 
 -- what the reading of the lines from one on gives, after those that made the draft
 abbrev pub run : Draft → ℕ → List (List ℕ) → Reading
 run d number [] = RefusedAt number NoEndata
 run d number (line ∷ rest) =
     let form = form_of d.section d.has_sense_line line
-    in outcome (kind_of d form) (is_end form) number (Read (model_of d)) (run (after d form) (number + 1) rest)
+    in outcome (draft_kind d form) (is_end form) number (Read (draft_model d)) (run (after d form) (number + 1) rest)

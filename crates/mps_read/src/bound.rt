@@ -1,9 +1,10 @@
 ghost use Rattle.std.specs.Prelude.{◌≡◌, ◌≤◌, ◌<◌, ◌^◌, ◌&&◌, not, true, false, length, Some, None, IfOk, OnOk, MatchOption};
 ghost use Rattle.mps_read.specs.Names.{is_long as is_long_name};
 ghost use Rattle.mps_read.specs.Forms.{bounds_form, BoundLine, has_numeral as is_with_numeral};
-ghost use Rattle.mps_read.specs.Facts.{is_used as is_used_set};
+ghost use Rattle.mps_read.specs.Sets.{is_used as is_used_set};
 ghost use Rattle.mps_read.specs.Numerals.{is_numeral, decimal_of};
-ghost use Rattle.mps_read.specs.ColumnFacts.{low_limit as low_limit_of, high_limit as high_limit_of, with_bound};
+ghost use Rattle.mps_read.specs.Columns.{low_limit as low_limit_of, high_limit as high_limit_of};
+ghost use Rattle.mps_read.specs.DraftColumns.{with_bound};
 ghost use Rattle.mps_read.specs.Seen.{seen, AreFields, IsField};
 ghost use Rattle.mps_read.specs.Drafts.{IsDraft};
 ghost use Rattle.mps_read.specs.Judges.{Judges};
@@ -23,7 +24,7 @@ use std::alloc::Global;
 fn low_limit(value: Decimal) -> Limit
     ensures { result ≡ low_limit_of value }
 {
-    if is_infinite(value.negation()) {
+    if is_infinite(value.negated()) {
         Limit::Free
     } else {
         Limit::At(value)

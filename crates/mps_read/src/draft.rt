@@ -1,6 +1,5 @@
 ghost use Rattle.std.specs.Prelude.{◌≡◌, []};
-ghost use Rattle.mps_read.specs.Readings.{draft_of};
-ghost use Rattle.mps_read.specs.Facts.{no_set};
+ghost use Rattle.mps_read.specs.Drafts.{first_draft, no_set};
 
 use crate::error::MpsKind;
 use crate::name::empty_name;
@@ -36,7 +35,7 @@ pub struct Mark {
 /// Whether a section of sets began, and the set that its first data line names.
 #[derive(Debug, Drop)]
 pub struct SetUse {
-    pub begun: bool,
+    pub has_begun: bool,
     pub set: Option<Name>,
 }
 
@@ -79,7 +78,7 @@ impl SetUse {
         ensures { result ≡ no_set }
     {
         SetUse {
-            begun: false,
+            has_begun: false,
             set: None,
         }
     }
@@ -88,7 +87,7 @@ impl SetUse {
 impl Draft {
     /// The draft before the first line.
     pub fn new(alloc: Global) -> Draft
-        ensures { result ≡ draft_of [] }
+        ensures { result ≡ first_draft }
     {
         Draft {
             section: None,

@@ -2,9 +2,9 @@ ghost use Rattle.std.specs.Prelude.{◌≡◌, ◌≤◌, ◌<◌, ◌^◌, ◌+
 ghost use Rattle.std.specs.List.{list_any};
 ghost use Rattle.mps_read.specs.Names.{is_among, place_among, is_long as is_long_name};
 ghost use Rattle.mps_read.specs.Forms.{columns_form, marker_form, Entries};
-ghost use Rattle.mps_read.specs.Kinds.{kind_of, has_mark};
+ghost use Rattle.mps_read.specs.DraftKinds.{draft_kind, has_mark};
 ghost use Rattle.mps_read.specs.Seen.{seen, seen_pair, AreFields, IsField, IsPair};
-ghost use Rattle.mps_read.specs.Steps.{entered, begun};
+ghost use Rattle.mps_read.specs.Steps.{after_entry, after_column};
 ghost use Rattle.mps_read.specs.Drafts.{IsDraft, IsPlaced};
 ghost use Rattle.mps_read.specs.Judges.{Judges};
 
@@ -77,7 +77,7 @@ fn begin_column(
     requires field { IsField name.now }
     requires short { is_long_name name.now ≡ false }
     requires known { is_known ≡ is_among name.now draft.old.column_names }
-    ensures { OnOk result (draft.new ≡ begun draft.old name.now) }
+    ensures { OnOk result (draft.new ≡ after_column draft.old name.now) }
 {
     if is_known {
         return Ok(());
@@ -99,7 +99,7 @@ fn enter(draft: &mut Draft, row: FoundRow, col: usize, value: Decimal) -> Result
     requires known { row.number < length draft.old.latest }
     requires column { col < length draft.old.cols }
     requires few { col < 2 ^ 31 }
-    ensures entered { OnOk result (draft.new ≡ entered row.number row.state.place col value draft.old) }
+    ensures after_entry { OnOk result (draft.new ≡ after_entry row.number row.state.place col value draft.old) }
     ensures columns { OnOk result (length draft.new.cols ≡ length draft.old.cols) }
 {
     match row.state.place {

@@ -1,6 +1,7 @@
 ghost use Rattle.std.specs.Prelude.{◌≡◌, [], true, false, IfOk, OnOk, IfNone};
 ghost use Rattle.mps_read.specs.Forms.{head_form, sense_form, Head};
-ghost use Rattle.mps_read.specs.Kinds.{kind_of, is_in_order as is_in_order_of, is_objsense as is_objsense_of, lacks_objective as lacks_objective_of, is_long_title as is_long_title_of, has_bad_sense as has_bad_sense_of};
+ghost use Rattle.mps_read.specs.DraftKinds.{draft_kind, has_begun as has_begun_of};
+ghost use Rattle.mps_read.specs.Kinds.{is_in_order as is_in_order_of, is_objsense as is_objsense_of, lacks_objective as lacks_objective_of, is_long_title as is_long_title_of, has_bad_sense as has_bad_sense_of};
 ghost use Rattle.mps_read.specs.Seen.{seen, AreFields, IsField};
 ghost use Rattle.mps_read.specs.Steps.{after_head};
 ghost use Rattle.mps_read.specs.Judges.{Judges};
@@ -15,7 +16,7 @@ use std::alloc::Global;
 
 /// Whether a section may stand next.
 fn is_in_order(draft: &Draft, section: Section) -> bool
-    ensures { result ≡ is_in_order_of draft.now section }
+    ensures { result ≡ is_in_order_of draft.now.section (has_begun_of draft.now section) section }
 {
     let rank = rank(draft.section);
     match section {
@@ -23,16 +24,16 @@ fn is_in_order(draft: &Draft, section: Section) -> bool
         Section::Objsense => rank <= 1,
         Section::Rows => rank <= 2,
         Section::Columns => rank == 3,
-        Section::Rhs => 4 <= rank && !draft.rhs.begun,
-        Section::Ranges => 4 <= rank && !draft.ranges.begun,
-        Section::Bounds => 4 <= rank && !draft.bounds.begun,
+        Section::Rhs => 4 <= rank && !draft.rhs.has_begun,
+        Section::Ranges => 4 <= rank && !draft.ranges.has_begun,
+        Section::Bounds => 4 <= rank && !draft.bounds.has_begun,
         Section::Endata => 4 <= rank,
     }
 }
 
 /// Whether the columns begin without an objective.
 fn lacks_objective(draft: &Draft, section: Section) -> bool
-    ensures { result ≡ lacks_objective_of draft.now (Head section []) }
+    ensures { result ≡ lacks_objective_of draft.now.objective (Head section []) }
 {
     match section {
         Section::Columns => draft.objective.is_none(),
@@ -62,7 +63,7 @@ fn is_objsense(section: Option<Section>) -> bool
 
 /// Whether the section's word is no sense, or the sense is missing where the next section begins.
 fn has_bad_sense(draft: &Draft, section: Section, word: &[u8]) -> bool
-    ensures { result ≡ has_bad_sense_of draft.now (Head section word.now) }
+    ensures { result ≡ has_bad_sense_of draft.now.section draft.now.maximise (Head section word.now) }
 {
     match section {
         Section::Objsense => !word.is_empty() && sense_named(word).is_none(),
@@ -72,7 +73,7 @@ fn has_bad_sense(draft: &Draft, section: Section, word: &[u8]) -> bool
 
 /// Why a section line isn't allowed, if it isn't.
 fn head_kind(draft: &Draft, section: Section, word: &[u8]) -> Option<MpsKind>
-    ensures kind { result ≡ kind_of draft.now (Head section word.now) }
+    ensures kind { result ≡ draft_kind draft.now (Head section word.now) }
     ensures short { IfNone result (is_long_title_of section word.now ≡ false) }
 {
     if !is_in_order(draft, section) {
@@ -104,9 +105,9 @@ fn begin_section(
     match section {
         Section::Name => draft.name = name_of(alloc, word)?,
         Section::Objsense => draft.maximise = sense_named(word),
-        Section::Rhs => draft.rhs.begun = true,
-        Section::Ranges => draft.ranges.begun = true,
-        Section::Bounds => draft.bounds.begun = true,
+        Section::Rhs => draft.rhs.has_begun = true,
+        Section::Ranges => draft.ranges.has_begun = true,
+        Section::Bounds => draft.bounds.has_begun = true,
         Section::Rows | Section::Columns | Section::Endata => {}
     }
     draft.section = Some(section);

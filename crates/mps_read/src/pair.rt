@@ -1,6 +1,6 @@
 ghost use Rattle.std.specs.Prelude.{◌≡◌, ◌<◌, ◌==◌, ◌&&◌, true, false, length, IfSome, MatchOption};
 ghost use Rattle.mps_read.specs.Names.{is_among, place_among};
-ghost use Rattle.mps_read.specs.RowFacts.{state_at, is_tested as is_tested_place};
+ghost use Rattle.mps_read.specs.DraftRows.{state_at, is_tested as is_tested_place};
 
 use crate::draft::{Draft, RowPlace, RowState};
 

@@ -1,6 +1,7 @@
 ghost use Rattle.std.specs.Prelude.{◌≡◌, ◌≤◌, ◌<◌, ◌^◌, length, IfOk, MatchResult};
 ghost use Rattle.mps_read.specs.Forms.{form_of, data_form};
-ghost use Rattle.mps_read.specs.Readings.{Reads, model_of, name_or_empty as name_or_empty_of};
+ghost use Rattle.mps_read.specs.Readings.{Reads, name_or_empty as name_or_empty_of};
+ghost use Rattle.mps_read.specs.Steps.{draft_model};
 ghost use Rattle.mps_read.specs.Outcomes.{IsOutcome, IsCause};
 ghost use Rattle.mps_read.specs.Seen.{seen, AreFields};
 ghost use Rattle.mps_read.specs.Judges.{Judges};
@@ -90,7 +91,7 @@ fn name_or_empty(alloc: Global, name: Option<Name>) -> Name
 
 /// The model of what was read.
 fn finish(alloc: Global, draft: Draft) -> MpsModel
-    ensures { result ≡ model_of draft }
+    ensures { result ≡ draft_model draft }
 {
     MpsModel {
         name: draft.name,
@@ -124,11 +125,13 @@ fn read_lines(alloc: Global, bytes: &[u8]) -> Result<Outcome, OutOfMemory>
 
 /// Reads a file: its model, or the first line that isn't allowed given all lines before it, with the first kind that
 /// applies to it. Lines after `ENDATA` aren't read. Only memory can end it otherwise. What it gives is a model that a
-/// file can have, which can be printed.
+/// file can have, which can be printed, with at most as many rows and at most as many columns as the file has bytes.
 pub fn read(alloc: Global, bytes: &[u8]) -> Result<MpsModel, MpsError>
     requires { length bytes.now ≤ 2 ^ 30 }
     ensures answer { MatchResult result (λ m. Reads bytes.now m) (λ e. IsCause bytes.now e) }
     ensures kept { IfOk result (λ m. IsMpsModel m) }
+    ensures few_rows { IfOk result (λ m. length m.rows ≤ length bytes.now) }
+    ensures few_columns { IfOk result (λ m. length m.cols ≤ length bytes.now) }
 {
     match read_lines(alloc, bytes)? {
         Outcome::Read(model) => Ok(model),

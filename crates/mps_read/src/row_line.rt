@@ -1,7 +1,7 @@
 ghost use Rattle.std.specs.Prelude.{◌≡◌, ◌<◌, ◌^◌, true, false, IfOk, IfNone};
 ghost use Rattle.mps_read.specs.Names.{is_among, is_long as is_long_name};
 ghost use Rattle.mps_read.specs.Forms.{rows_form, FreeRow, KeptRow, marker_word};
-ghost use Rattle.mps_read.specs.Kinds.{kind_of};
+ghost use Rattle.mps_read.specs.DraftKinds.{draft_kind};
 ghost use Rattle.mps_read.specs.Seen.{seen, AreFields, IsField};
 ghost use Rattle.mps_read.specs.Judges.{Judges};
 
@@ -16,7 +16,7 @@ use std::alloc::Global;
 
 /// Why a row may not have this name, if it may not.
 fn name_kind(draft: &Draft, name: &[u8]) -> Option<MpsKind>
-    ensures kind { result ≡ kind_of draft.now (FreeRow name.now) }
+    ensures kind { result ≡ draft_kind draft.now (FreeRow name.now) }
     ensures new { IfNone result (is_among name.now draft.now.row_names ≡ false) }
     ensures short { IfNone result (is_long_name name.now ≡ false) }
 {

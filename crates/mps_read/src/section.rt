@@ -1,7 +1,7 @@
 ghost use Rattle.std.specs.Prelude.{◌≡◌, []};
 ghost use Rattle.std.specs.Str.{bytes_eq};
 ghost use Rattle.mps_read.specs.Forms.{section_named as section_of_name, bound_named as bound_of_name, row_kind_named as row_kind_of_name, has_numeral as is_with_numeral, is_end, Head};
-ghost use Rattle.mps_read.specs.Facts.{sense_named as sense_of_name};
+ghost use Rattle.mps_read.specs.Headers.{sense_named as sense_of_name};
 ghost use Rattle.mps_read.specs.Kinds.{rank_of};
 
 use mps_model::RowKind;

@@ -1,11 +1,11 @@
 ghost use Rattle.std.specs.Prelude.{◌≡◌, ◌≤◌, ◌<◌, ◌^◌, true, false, length, Some, None, IfOk, OnOk};
 ghost use Rattle.mps_read.specs.Names.{is_long as is_long_name};
 ghost use Rattle.mps_read.specs.Forms.{values_form, Values};
-ghost use Rattle.mps_read.specs.Facts.{is_used as is_used_set, with_set};
-ghost use Rattle.mps_read.specs.Kinds.{values_use, has_value as has_value_of};
-ghost use Rattle.mps_read.specs.RowFacts.{with_marked, with_value, with_constant};
+ghost use Rattle.mps_read.specs.Sets.{is_used as is_used_set};
+ghost use Rattle.mps_read.specs.Steps.{with_set, after_value, with_values_set};
+ghost use Rattle.mps_read.specs.DraftKinds.{values_use, has_value as has_value_of};
+ghost use Rattle.mps_read.specs.DraftRows.{with_marked, with_value, with_constant};
 ghost use Rattle.mps_read.specs.Seen.{seen, seen_pair, AreFields, IsField, IsPair};
-ghost use Rattle.mps_read.specs.Steps.{given, with_values_set};
 ghost use Rattle.mps_read.specs.Drafts.{IsDraft, IsPlaced};
 ghost use Rattle.mps_read.specs.Judges.{Judges};
 
@@ -104,7 +104,7 @@ fn set_value(draft: &mut Draft, kind: ValueKind, place: RowPlace, value: Decimal
         RowPlace::Dropped => {}
         RowPlace::Objective => {
             if let ValueKind::Side = kind {
-                draft.constant = value.negation();
+                draft.constant = value.negated();
             }
         }
         RowPlace::Kept(row) => match kind {
@@ -118,7 +118,7 @@ fn set_value(draft: &mut Draft, kind: ValueKind, place: RowPlace, value: Decimal
 fn give(draft: &mut Draft, kind: ValueKind, row: FoundRow, value: Decimal)
     requires known { row.number < length draft.old.row_states }
     requires placed { IsPlaced (length draft.old.rows) row.state.place }
-    ensures given { draft.new ≡ given kind row.number row.state.place value draft.old }
+    ensures given { draft.new ≡ after_value kind row.number row.state.place value draft.old }
     ensures states { length draft.new.row_states ≡ length draft.old.row_states }
     ensures rows { length draft.new.rows ≡ length draft.old.rows }
 {
