@@ -21,7 +21,7 @@ pub fn work_of(alloc: Global, job: &Job) -> Result<Option<u64>, OutOfMemory> {
 }
 
 /// The counted work of a call on the root box.
-#[tactic(auto, using(dual_ascent::proofs::AscentWork::ascent_work_allowed, safe_bound::proofs::Reaching::root_within_reach, ip_core::proofs::NarrowerBoxes::within_itself))]
+#[tactic(auto, using(dual_ascent::proofs::AscentWork::ascent_work_allowed, ip_core::proofs::Reaching::root_within_reach, ip_core::proofs::NarrowerBoxes::within_itself))]
 fn work_on(alloc: Global, model: &Model, call: Call) -> Result<u64, OutOfMemory> {
     let parts = model.parts();
     let mut bounds = parts.root.copy(alloc)?;
