@@ -89,7 +89,8 @@ fn first_row(alloc: Global, row: &Row, highs: &[i64]) -> Result<Row, OutOfMemory
     })
 }
 
-/// The bounds of the first columns. In a deep box every fourth column is fixed at its low, and every fourth at its high.
+/// The bounds of the first columns. In a deep box every second column is fixed: of four such columns one at its high and three at
+/// their lows.
 fn first_bounds(alloc: Global, root: &Bounds, job: &Job) -> Result<Option<Bounds>, OutOfMemory>
     requires { job.now.columns ≤ length root.now.lows }
 {
@@ -106,10 +107,10 @@ fn fix_half(lows: &mut [i64], highs: &mut [i64])
     requires { length lows.old ≡ length highs.old }
 {
     for at in 0..lows.len() {
-        if at % 4 == 0 {
-            highs[at] = lows[at];
-        } else if at % 4 == 2 {
+        if at % 8 == 0 {
             lows[at] = highs[at];
+        } else if at % 2 == 0 {
+            highs[at] = lows[at];
         }
     }
 }
