@@ -2,7 +2,7 @@ use Rattle.std.proofs.Common.{◌≡◌, ◌∙◌, ◌+◌, ℕ, Bool, true, fa
 use Rattle.std.specs.Str.{bytes_eq}
 use Rattle.std.proofs.lemmas.Bool.{false≢true, true≢false}
 use Rattle.std.proofs.lemmas.List.{append_assoc, map-append, length-map}
-use Rattle.ip_core.specs.Decimals.{Number, negated}
+use Rattle.ip_core.specs.Decimals.{Number, negation}
 use Rattle.mps_model.specs.Numbers.{zero_decimal, is_zero}
 use Rattle.mps_model.specs.declared.model.RowKind.{RowKind}
 use Rattle.mps_model.specs.declared.model.MpsRow.{MpsRow}
@@ -88,7 +88,7 @@ free_follows before m l name law new =
     refl refl
     (map_all _ _ (column_names_of before)
     (λ x. costs_same x o (first_given o name) kept (begins_integer x before) (pairs_of x before) (bounds_of x before) (free_number o names name (pairs_of x before) (law.pairs_known x) new)))
-    (ap negated (free_number o names name sides law.sides_known new))
+    (ap negation (free_number o names name sides law.sides_known new))
     refl refl refl,
     subst (λ (ns : List (List ℕ)). AreLawful (first_given o name) ns (kept_rows_of before) sides ranges (column_names_of before) (λ c. pairs_of c before) (λ c. bounds_of c before) m)
     (ap (λ b. if b then names else names ++ name ∷ []) (sym new))
@@ -276,7 +276,7 @@ module _ (before : List Form) (m : List Mark) (l : List ℕ) (set : List ℕ) (f
       ∙ to_draft (draft_of (f ∷ before) m l) d.row_states d.kept d.rows d.cols d.constant d.rhs d.ranges d.bounds
       (ap (λ ps. states_said o (kept_names_of before) ps (pairs_in Range before) (row_names_of before)) same) refl
       (ap (λ ps. map (row_of ps (pairs_in Range before)) (kept_rows_of before)) same) refl
-      (ap (λ ps. negated (objective_number o ps)) same)
+      (ap (λ ps. negation (objective_number o ps)) same)
       (ap (set_with (has_section Rhs before)) (sym (first_same (set_of Side before) set unused))) refl refl)
       (sides_lawful o (row_names_of before) (kept_rows_of before) (pairs_in Side before) (pairs_in Range before) (column_names_of before) (λ c. pairs_of c before) (λ c. bounds_of c before) m law
       (pairs_in Side (f ∷ before)) (subst (AreKnown (row_names_of before)) same law.sides_known))
@@ -312,7 +312,7 @@ module _ (before : List Form) (m : List Mark) (l : List ℕ) (set : List ℕ) (f
           ap (λ p. with_value Side p (decimal_of first.numeral) (rows_of before)) (place_of first kf)
           ∙ side_rows (objective_of before) (pairs_in Side before) (pairs_in Range before) (kept_rows_of before) first (kept_once first) (law.objective_apart first.row) none
 
-      side_number : with_constant Side (place_of_pair (row_names_of before) (draft_of before m l).row_states first) (decimal_of first.numeral) (constant_of before) ≡ negated (objective_number (objective_of before) (pairs_in Side before ++ first ∷ []))
+      side_number : with_constant Side (place_of_pair (row_names_of before) (draft_of before m l).row_states first) (decimal_of first.numeral) (constant_of before) ≡ negation (objective_number (objective_of before) (pairs_in Side before ++ first ∷ []))
       side_number =
           ap (λ p. with_constant Side p (decimal_of first.numeral) (constant_of before)) (place_of first kf)
           ∙ side_constant (objective_of before) (kept_names_of before) (pairs_in Side before) first none
@@ -330,7 +330,7 @@ module _ (before : List Form) (m : List Mark) (l : List ℕ) (set : List ℕ) (f
           (side_states o (kept_names_of before) (pairs_in Side before) (pairs_in Range before) (row_names_of before) first (names_once first) kf
           ∙ ap (λ ps. states_said o (kept_names_of before) ps (pairs_in Range before) (row_names_of before)) more) refl
           (side_row ∙ ap (λ ps. map (row_of ps (pairs_in Range before)) (kept_rows_of before)) more) refl
-          (side_number ∙ ap (λ ps. negated (objective_number o ps)) more)
+          (side_number ∙ ap (λ ps. negation (objective_number o ps)) more)
           (ap (λ b. if b then set_with (has_section Rhs before) (first_given (set_of Side before) set) else d.rhs) used) refl refl)
           (sides_lawful o (row_names_of before) (kept_rows_of before) (pairs_in Side before) (pairs_in Range before) (column_names_of before) (λ c. pairs_of c before) (λ c. bounds_of c before) m law
           (pairs_in Side (f ∷ before)) (subst (AreKnown (row_names_of before)) more (known_push (row_names_of before) (pairs_in Side before) first law.sides_known kf)))
@@ -362,7 +362,7 @@ module _ (before : List Form) (m : List Mark) (l : List ℕ) (set : List ℕ) (f
           (ap (λ q. with_constant Side q value once.constant) (place_of second ks)
           ∙ ap (with_constant Side p value) side_number
           ∙ side_constant o (kept_names_of before) sides second again
-          ∙ ap (λ ps. negated (objective_number o ps)) more)
+          ∙ ap (λ ps. negation (objective_number o ps)) more)
           (ap (λ b. if b then set_with (has_section Rhs before) (first_given (set_of Side before) set) else d.rhs) used) refl refl)
           (sides_lawful o (row_names_of before) (kept_rows_of before) (pairs_in Side before) (pairs_in Range before) (column_names_of before) (λ c. pairs_of c before) (λ c. bounds_of c before) m law
           (pairs_in Side (f ∷ before)) (subst (AreKnown (row_names_of before)) more (known_push (row_names_of before) sides second (known_push (row_names_of before) (pairs_in Side before) first law.sides_known kf) ks)))

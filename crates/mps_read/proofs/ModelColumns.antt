@@ -3,7 +3,7 @@ use Rattle.std.proofs.lemmas.Bool.{false≢true}
 use Rattle.std.proofs.lemmas.Int.{ints}
 use Rattle.std.proofs.lemmas.List.{map-append}
 use Rattle.std.proofs.lemmas.List.Elements.{All-nil, All-push}
-use Rattle.ip_core.specs.Decimals.{Number, IsDecimal, negated, read_decimal}
+use Rattle.ip_core.specs.Decimals.{Number, IsDecimal, negation, read_decimal}
 use Rattle.ip_core.specs.declared.decimal.NumeralError.{NumeralError}
 use Rattle.ip_core.proofs.DecimalReads.{zero_is, read_decimal_is}
 use Rattle.mps_read.specs.Names.{is_among, extended}
@@ -46,12 +46,12 @@ no_tenth k same = omega (arith, same)
 one_is : IsDecimal one_decimal
 one_is = record { reduced = λ k same. absurd (no_tenth k same); zero = λ none. refl; few = omega arith; least = omega (arith, ints); greatest = omega (arith, ints) }
 
-low_by : (b : Bool) (value : Number) → IsDecimal value → is_infinite (negated value) ≡ b → IsLow (if b then Free else At value)
+low_by : (b : Bool) (value : Number) → IsDecimal value → is_infinite (negation value) ≡ b → IsLow (if b then Free else At value)
 low_by true value v h = tt
 low_by false value v h = (v, h)
 
 low_is : (value : Number) → IsDecimal value → IsLow (low_limit value)
-low_is value v = low_by (is_infinite (negated value)) value v refl
+low_is value v = low_by (is_infinite (negation value)) value v refl
 
 high_by : (b : Bool) (value : Number) → IsDecimal value → is_infinite value ≡ b → IsHigh (if b then Free else At value)
 high_by true value v h = tt

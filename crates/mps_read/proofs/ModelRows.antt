@@ -2,7 +2,7 @@ use Rattle.std.proofs.Common.{◌≡◌, ◌∙◌, ◌<◌, ◌+◌, ℕ, zero,
 use Rattle.std.proofs.lemmas.Int.{ints}
 use Rattle.std.proofs.lemmas.List.{map-append}
 use Rattle.std.proofs.lemmas.List.Elements.{All-push, All-weaker, All-head, All-tail}
-use Rattle.ip_core.specs.Decimals.{Number, IsDecimal, negated}
+use Rattle.ip_core.specs.Decimals.{Number, IsDecimal, negation}
 use Rattle.ip_core.proofs.DecimalReads.{zero_is}
 use Rattle.mps_read.specs.Names.{is_among}
 use Rattle.mps_read.specs.Sets.{first_given}
@@ -144,7 +144,7 @@ more_columns kept cols names h = record { each = All-weaker (IsColumn kept) (IsC
 
 -- values
 
-negated_decimal : (n : Number) → IsDecimal n → IsDecimal (negated n)
+negated_decimal : (n : Number) → IsDecimal n → IsDecimal (negation n)
 negated_decimal n h = record {
   reduced = λ k same. (let none : n.mantissa ≡ pos 0 = h.reduced k (omega (arith, ints, same)) in omega (arith, ints, none));
   zero = λ none. h.zero (omega (arith, ints, none));

@@ -4,7 +4,7 @@ use Rattle.std.proofs.lemmas.Bool.{false≢true, ne_eqb}
 use Rattle.std.proofs.lemmas.Int.{ints}
 use Rattle.std.proofs.lemmas.List.{append_assoc, append-nil, length-append, map-append, length_push, get_or_at, set_at, length-map, map-set, set-get_or, get_or-set_other}
 use Rattle.std.proofs.lemmas.List.Elements.{All-head, All-tail}
-use Rattle.ip_core.specs.Decimals.{Number, IsDecimal, negated}
+use Rattle.ip_core.specs.Decimals.{Number, IsDecimal, negation}
 use Rattle.ip_core.specs.Prints.{number_text}
 use Rattle.ip_core.proofs.DecimalReduced.{negated_is}
 use Rattle.mps_read.specs.Names.{is_among, place_among, is_long}
@@ -293,19 +293,19 @@ twice_is k = neg_ℤ (neg_ℤ k) ≡ k
 negated_twice : (k : ℤ) → twice_is k
 negated_twice k = omega (arith, ints)
 
-negated_decimal : (n : Number) → IsDecimal n → IsDecimal (negated n)
+negated_decimal : (n : Number) → IsDecimal n → IsDecimal (negation n)
 negated_decimal n h =
     let e : pos 0 -ℤ n.mantissa ≡ neg_ℤ n.mantissa = omega (arith, ints) in
     subst (λ (k : ℤ). IsDecimal (record { mantissa = k; exponent = n.exponent })) e (negated_is n.mantissa n.exponent h)
 
-turned_back : (n : Number) → negated (negated n) ≡ n
+turned_back : (n : Number) → negation (negation n) ≡ n
 turned_back n = ap (λ k. record { mantissa = k; exponent = n.exponent }) (negated_twice n.mantissa)
 
-constant_zero : (n : Number) → IsDecimal n → is_zero (negated n) ≡ true → zero_decimal ≡ n
-constant_zero n h none = sym (ap negated (zero_is (negated n) (negated_decimal n h) none)) ∙ turned_back n
+constant_zero : (n : Number) → IsDecimal n → is_zero (negation n) ≡ true → zero_decimal ≡ n
+constant_zero n h none = sym (ap negation (zero_is (negation n) (negated_decimal n h) none)) ∙ turned_back n
 
 constant_kept : (m : MpsModel) (d : Draft) (lines : List ℕ) → is_nil lines ≡ false → InSides m lines [] m.rows 0 zero_decimal d
-    → InSides m (side_lines m.rows) [] m.rows 1 m.constant (with_values_set Side (codes "RHS") (after_value Side 0 Objective (negated m.constant) d))
+    → InSides m (side_lines m.rows) [] m.rows 1 m.constant (with_values_set Side (codes "RHS") (after_value Side 0 Objective (negation m.constant) d))
 constant_kept m d lines filled h = record {
   late = h.late;
   opened = λ more. h.opened filled;
@@ -342,20 +342,20 @@ constant_skipped m d lines filled same h = record {
 
 constant_back : (m : MpsModel) → IsMpsModel m → (rest : List ℕ) (r : Reading) → ((e : Draft) → InSides m (side_lines m.rows) [] m.rows 1 m.constant e → Gives e rest r)
     → (d : Draft) → InSides m (sides_lines m) [] m.rows 0 zero_decimal d
-    → (b : Bool) → is_zero (negated m.constant) ≡ b → Gives d ((if b then [] else pair_line (codes "RHS") m.objective (negated m.constant)) ++ rest) r
+    → (b : Bool) → is_zero (negation m.constant) ≡ b → Gives d ((if b then [] else pair_line (codes "RHS") m.objective (negation m.constant)) ++ rest) r
 constant_back m valid rest r next d h true none =
-    next d (constant_skipped m d (sides_lines m) (more_filled (nonzero_line (codes "RHS") m.objective (negated m.constant)) (side_lines m.rows)) (constant_zero m.constant valid.constant none) h)
+    next d (constant_skipped m d (sides_lines m) (more_filled (nonzero_line (codes "RHS") m.objective (negation m.constant)) (side_lines m.rows)) (constant_zero m.constant valid.constant none) h)
 constant_back m valid rest r next d h false some =
-    let filled : is_nil (sides_lines m) ≡ false = ap (λ b. is_nil ((if b then [] else pair_line (codes "RHS") m.objective (negated m.constant)) ++ side_lines m.rows)) some in
-    value_step Side d (codes "RHS") m.objective 0 Objective (negated m.constant) rest r (h.opened filled) h.used refl refl
+    let filled : is_nil (sides_lines m) ≡ false = ap (λ b. is_nil ((if b then [] else pair_line (codes "RHS") m.objective (negation m.constant)) ++ side_lines m.rows)) some in
+    value_step Side d (codes "RHS") m.objective 0 Objective (negation m.constant) rest r (h.opened filled) h.used refl refl
     (objective_row m d.row_names d.row_states valid h.frame.same_rows h.places) (field_word m.objective valid.objective.field) (negated_decimal m.constant valid.constant) (h.sides 0 (omega arith))
-    (next (with_values_set Side (codes "RHS") (after_value Side 0 Objective (negated m.constant) d)) (constant_kept m d (sides_lines m) filled h))
+    (next (with_values_set Side (codes "RHS") (after_value Side 0 Objective (negation m.constant) d)) (constant_kept m d (sides_lines m) filled h))
 
 all_sides_back : (m : MpsModel) → IsMpsModel m → (rest : List ℕ) (r : Reading) → ((d : Draft) → InSides m [] m.rows [] (suc (length m.rows)) m.constant d → Gives d rest r)
     → (d : Draft) → InSides m (sides_lines m) [] m.rows 0 zero_decimal d → Gives d (sides_lines m ++ rest) r
 all_sides_back m valid rest r next d h =
-    subst (λ (t : List ℕ). Gives d t r) (sym (append_assoc (nonzero_line (codes "RHS") m.objective (negated m.constant)) (side_lines m.rows) rest))
-    (constant_back m valid (side_lines m.rows ++ rest) r (sides_back m valid rest r m.rows [] valid.rows next) d h (is_zero (negated m.constant)) refl)
+    subst (λ (t : List ℕ). Gives d t r) (sym (append_assoc (nonzero_line (codes "RHS") m.objective (negation m.constant)) (side_lines m.rows) rest))
+    (constant_back m valid (side_lines m.rows ++ rest) r (sides_back m valid rest r m.rows [] valid.rows next) d h (is_zero (negation m.constant)) refl)
 
 -- the draft after the columns
 columns_ended : (m : MpsModel) (section : Option Section) (rhs : SetUse) (d : Draft) → InColumns m false [] d → IsLate section → is_used rhs.set (codes "RHS") ≡ true → (is_nil (sides_lines m) ≡ false → section ≡ Some Rhs)

@@ -3,7 +3,7 @@ use Rattle.std.specs.List.{list_any, position_or_len}
 use Rattle.std.specs.Str.{bytes_eq}
 use Rattle.std.proofs.lemmas.Bool.{false≢true}
 use Rattle.std.proofs.lemmas.List.{map-append}
-use Rattle.ip_core.specs.Decimals.{Number, negated}
+use Rattle.ip_core.specs.Decimals.{Number, negation}
 use Rattle.mps_model.specs.Prints.{fresh_row}
 use Rattle.mps_model.specs.declared.model.RowKind.{RowKind}
 use Rattle.mps_model.specs.declared.model.RowKind.TheVariants.{Less}
@@ -223,9 +223,9 @@ objective_here (Some first) pairs q h none =
     ap number_or_zero (number_here first pairs q (ap (λ n. is_named n pairs) (sym (eq_of q.row first h)) ∙ none) (turned q.row first true h))
 
 pub side_constant : (o : Option (List ℕ)) (kept : List (List ℕ)) (sides : List Pair) (q : Pair) → (is_single o kept q.row && is_named q.row sides) ≡ false
-    → with_constant Side (place_said (is_objective o q.row) kept q.row) (decimal_of q.numeral) (negated (objective_number o sides)) ≡ negated (objective_number o (sides ++ q ∷ []))
+    → with_constant Side (place_said (is_objective o q.row) kept q.row) (decimal_of q.numeral) (negation (objective_number o sides)) ≡ negation (objective_number o (sides ++ q ∷ []))
 side_constant o kept sides q none =
-    place_by_test (λ p. with_constant Side p (decimal_of q.numeral) (negated (objective_number o sides)) ≡ negated (objective_number o (sides ++ q ∷ []))) (is_objective o q.row) kept q.row
-    (λ b. ap negated (sym (objective_here o sides q b (unnamed_objective (is_objective o q.row) (is_among q.row kept) (is_named q.row sides) none b))))
-    (λ b k. ap negated (sym (objective_other o sides q b)))
-    (λ b k. ap negated (sym (objective_other o sides q b)))
+    place_by_test (λ p. with_constant Side p (decimal_of q.numeral) (negation (objective_number o sides)) ≡ negation (objective_number o (sides ++ q ∷ []))) (is_objective o q.row) kept q.row
+    (λ b. ap negation (sym (objective_here o sides q b (unnamed_objective (is_objective o q.row) (is_among q.row kept) (is_named q.row sides) none b))))
+    (λ b k. ap negation (sym (objective_other o sides q b)))
+    (λ b k. ap negation (sym (objective_other o sides q b)))

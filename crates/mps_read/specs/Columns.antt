@@ -1,7 +1,7 @@
 -- What the lines so far say of columns. They stand newest first.
 use Rattle.std.specs.Prelude.{ℕ, Bool, true, false, not, ◌&&◌, ◌||◌, List, [], ◌∷◌, ◌++◌, map, Option, Some, None, if◌then◌else◌}
 use Rattle.std.specs.Str.{bytes_eq}
-use Rattle.ip_core.specs.Decimals.{Number, negated}
+use Rattle.ip_core.specs.Decimals.{Number, negation}
 use Rattle.mps_model.specs.Numbers.{zero_decimal, is_zero, is_infinite}
 use Rattle.mps_model.specs.declared.model.Limit.{Limit}
 use Rattle.mps_model.specs.declared.model.Limit.TheVariants.{Unset, Free, At}
@@ -59,7 +59,7 @@ begins_integer column (_ ∷ before) = begins_integer column before
 
 -- a number as a low
 abbrev pub low_limit : Number → Limit
-low_limit value = if is_infinite (negated value) then Free else At value
+low_limit value = if is_infinite (negation value) then Free else At value
 
 -- and as a high
 abbrev pub high_limit : Number → Limit

@@ -1,6 +1,6 @@
 -- What the reader keeps of rows, by the numbers of their names.
 use Rattle.std.specs.Prelude.{ℕ, Bool, true, false, List, [], Option, Some, None, slice_set, slice_index_or, if◌then◌else◌}
-use Rattle.ip_core.specs.Decimals.{Number, negated}
+use Rattle.ip_core.specs.Decimals.{Number, negation}
 use Rattle.mps_model.specs.Prints.{fresh_row}
 use Rattle.mps_model.specs.declared.model.RowKind.TheVariants.{Less}
 use Rattle.mps_model.specs.declared.model.MpsRow.{MpsRow}
@@ -62,7 +62,7 @@ place_of_pair names states pair = (state_at states (place_among pair.row names))
 
 -- the constant is the objective's right-hand side negated
 abbrev pub with_constant : ValueKind → RowPlace → Number → Number → Number
-with_constant Side Objective value constant = negated value
+with_constant Side Objective value constant = negation value
 with_constant Side Dropped value constant = constant
 with_constant Side (Kept row) value constant = constant
 with_constant Range place value constant = constant

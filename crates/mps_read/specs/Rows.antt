@@ -1,7 +1,7 @@
 -- What the lines so far say of rows. They stand newest first.
 use Rattle.std.specs.Prelude.{ℕ, Bool, true, false, ◌||◌, List, [], ◌∷◌, ◌++◌, map, Option, Some, None}
 use Rattle.std.specs.Str.{bytes_eq}
-use Rattle.ip_core.specs.Decimals.{Number, negated}
+use Rattle.ip_core.specs.Decimals.{Number, negation}
 use Rattle.mps_model.specs.Numbers.{zero_decimal}
 use Rattle.mps_model.specs.declared.model.RowKind.{RowKind}
 use Rattle.mps_model.specs.declared.model.MpsRow.{MpsRow}
@@ -68,4 +68,4 @@ rows_of before = map (row_of (pairs_in Side before) (pairs_in Range before)) (ke
 
 -- the constant is the objective's right-hand side negated
 abbrev pub constant_of : List Form → Number
-constant_of before = negated (objective_number (objective_of before) (pairs_in Side before))
+constant_of before = negation (objective_number (objective_of before) (pairs_in Side before))

@@ -24,7 +24,7 @@ use std::alloc::Global;
 fn low_limit(value: Decimal) -> Limit
     ensures { result ≡ low_limit_of value }
 {
-    if is_infinite(value.negated()) {
+    if is_infinite(value.negation()) {
         Limit::Free
     } else {
         Limit::At(value)

@@ -104,7 +104,7 @@ fn set_value(draft: &mut Draft, kind: ValueKind, place: RowPlace, value: Decimal
         RowPlace::Dropped => {}
         RowPlace::Objective => {
             if let ValueKind::Side = kind {
-                draft.constant = value.negated();
+                draft.constant = value.negation();
             }
         }
         RowPlace::Kept(row) => match kind {
