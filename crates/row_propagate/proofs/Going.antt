@@ -24,18 +24,9 @@ goes_on s steps Open next same = refl
 goes_on s steps (Conflict name) next same = absurd (false≢true same)
 goes_on s steps (Empty col) next same = absurd (false≢true same)
 
-stays : (s : Sides) (steps : List Tighten) (outcome : Outcome) (next : Run → Run) → is_open outcome ≡ false → go_on (run_of s steps outcome) next ≡ run_of s steps outcome
-stays s steps Open next same = absurd (false≢true (sym same))
-stays s steps (Conflict name) next same = refl
-stays s steps (Empty col) next same = refl
-
 -- what comes next where the run is open
 pub go_open : (run : Run) (s : Sides) (steps : List Tighten) (outcome : Outcome) (next : Run → Run) → run_of s steps outcome ≡ run → is_open outcome ≡ true → go_on run next ≡ next (open_run s steps)
 go_open run s steps outcome next same open_outcome = ap (λ r. go_on r next) (sym same) ∙ goes_on s steps outcome next open_outcome
-
--- and where it is closed
-pub go_closed : (run : Run) (s : Sides) (steps : List Tighten) (outcome : Outcome) (next : Run → Run) → run_of s steps outcome ≡ run → is_open outcome ≡ false → go_on run next ≡ run_of s steps outcome
-go_closed run s steps outcome next same closed = ap (λ r. go_on r next) (sym same) ∙ stays s steps outcome next closed
 
 -- the next of the columns that are left
 pub columns_next : (name : RowRef) (row : Row) (terms : List Term) (i : ℕ) (d : Term) (run : Run) → i < length terms → after_columns name row (drop i terms) run ≡ go_on (after_column name row (get_or terms i d).col run) (after_columns name row (drop (i + 1) terms))
@@ -45,10 +36,7 @@ columns_next name row terms i d run within = ap (λ ts. after_columns name row t
 pub rows_next : (name : ℕ → RowRef) (rows : List Row) (i : ℕ) (d : Row) (run : Run) → i < length rows → after_rows name i (drop i rows) run ≡ go_on (after_row (name i) (get_or rows i d) run) (after_rows name (i + 1) (drop (i + 1) rows))
 rows_next name rows i d run within = ap (λ rs. after_rows name i rs run) (drop_more rows i d within)
 
--- nothing happened, and one thing after another
-pub replayed_none : (rows cuts : List Row) (s : Sides) (steps : List Tighten) → IsReplayed rows cuts s steps s steps
-replayed_none rows cuts s steps = record { from = λ start same. same }
-
+-- steps after steps
 pub replayed_both : (rows cuts : List Row) (a b c : Sides) (first second third : List Tighten) → IsReplayed rows cuts a first b second → IsReplayed rows cuts b second c third → IsReplayed rows cuts a first c third
 replayed_both rows cuts a b c first second third before after = record { from = λ start same. after.from start (before.from start same) }
 
@@ -58,8 +46,3 @@ model_naming rows cuts = record { at = λ i other within. record { known = withi
 
 pub cut_naming : (rows cuts : List Row) → AreNamed rows cuts Cut cuts
 cut_naming rows cuts = record { at = λ i other within. record { known = within; same = get_or_default cuts i no_row other within } }
-
--- a row that was read has its name
-pub named_row : (rows cuts : List Row) (name : ℕ → RowRef) (some : List Row) (i : ℕ) (given : RowRef) (row : Row) → AreNamed rows cuts name some → i < length some → given ≡ name i → row ≡ get_or some i row → IsNamed rows cuts given row
-named_row rows cuts name some i given row naming within same read =
-    subst (λ r. IsNamed rows cuts given r) (sym read) (subst (λ n. IsNamed rows cuts n (get_or some i row)) (sym same) (naming.at i row within))

@@ -3,7 +3,6 @@ pub mod Keeping
 pub mod Changes
 pub mod WorkedRows
 pub mod Stepping
-pub mod Readiness
 pub mod Going
 pub mod Passing
 pub mod FirstEmpty
@@ -15,3 +14,7 @@ pub mod Transposing
 pub mod Moving
 pub mod Movable
 pub mod Summing
+pub mod Own
+pub mod Loose
+pub mod Quieting
+pub mod VisitLaws

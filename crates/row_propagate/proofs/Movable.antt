@@ -4,8 +4,8 @@ use Rattle.std.proofs.lemmas.Int.{ints}
 use Rattle.std.proofs.lemmas.List.Elements.{All-append, All-weaker}
 use Rattle.std.proofs.lemmas.List.Sums.{sum_by-cons}
 use Rattle.ip_core.specs.Numbers.{int_at}
-use Rattle.ip_core.specs.Sides.{Sides, reach}
-use Rattle.ip_core.specs.Boxes.{IsWithinReach, greatest_activity, greatest_part}
+use Rattle.ip_core.specs.Sides.{Sides, HasNoEmpty, reach}
+use Rattle.ip_core.specs.Boxes.{IsWithin, IsWithinReach, greatest_activity, greatest_part}
 use Rattle.ip_core.proofs.Reaching.{row_ready}
 use Rattle.ip_core.specs.Rows.{IsReady, IsRow, AreRows, AreTerms, term_width}
 use Rattle.ip_core.specs.declared.model.ModelParts.{ModelParts}
@@ -139,3 +139,21 @@ pub movable_small : (a : Activities) (j : ℕ) (low high new_low new_high : ℤ)
 movable_small a j low high new_low new_high w =
     let column = kept_column w.model w.cuts w.sides a j w.kept w.move.known in
     subst (StaySmall low high new_low new_high a.sums) (sym column) (stay_small w.model w.cuts w.sides a.sums j low high new_low new_high no_row w.kept.fit w.kept.sums w.move)
+
+-- a column may go from its ends in one box to its ends in another within the root box
+pub move_to : (m : ModelParts) (s t : Sides) (j : ℕ) (low high new_low new_high : ℤ) → length m.root.lows ≡ length m.cols → j < length m.cols → HasNoEmpty s → length s.lows ≡ length m.cols → low ≡ int_at s.lows j → high ≡ int_at s.highs j → IsWithin m.root t → HasNoEmpty t → new_low ≡ int_at t.lows j → new_high ≡ int_at t.highs j → IsMove m s j low high new_low new_high
+move_to m s t j low high new_low new_high box known solid columns from_low from_high within narrow to_low to_high =
+    let there : j < length t.lows = omega (arith, known, box, within.as_many_lows) in
+    record {
+      known = known;
+      from_low = sym from_low;
+      from_high = sym from_high;
+      uncrossed = omega (arith, ints, from_low, from_high, (solid.all j (omega (arith, known, columns))).ordered);
+      above = omega (arith, ints, to_low, within.lows j there);
+      ordered = omega (arith, ints, to_low, to_high, (narrow.all j there).ordered);
+      below = omega (arith, ints, to_high, within.highs j there);
+    }
+
+-- what is kept may go where its box's column may
+pub movable : (m : ModelParts) (cuts : List Row) (s : Sides) (a : Activities) (j : ℕ) (low high new_low new_high : ℤ) → IsKept m cuts s a → IsMove m s j low high new_low new_high → IsMovable a j low high new_low new_high
+movable m cuts s a j low high new_low new_high kept move = record { model = m; cuts = cuts; sides = s; kept = kept; move = move }

@@ -100,7 +100,7 @@ part_cases low high new_low new_high false c rest old_part new_part old_sum new_
 ends_there : (s : Sides) (j : ℕ) (new_low new_high c : ℤ) → j < length s.lows → j < length s.highs → greatest_product (int_at (set s.lows j new_low) j) (int_at (set s.highs j new_high) j) c ≡ greatest_product new_low new_high c
 ends_there s j new_low new_high c of_lows of_highs = ap₂ (λ a b. greatest_product a b c) (get_or-set_same s.lows j new_low (pos 0) of_lows) (get_or-set_same s.highs j new_high (pos 0) of_highs)
 
-ends_apart : (s : Sides) (j : ℕ) (new_low new_high : ℤ) (t : Term) → t.col ≢ j → greatest_part (with_ends s j new_low new_high) t ≡ greatest_part s t
+pub ends_apart : (s : Sides) (j : ℕ) (new_low new_high : ℤ) (t : Term) → t.col ≢ j → greatest_part (with_ends s j new_low new_high) t ≡ greatest_part s t
 ends_apart s j new_low new_high t apart = ap₂ (λ a b. greatest_product a b t.coef) (get_or-set_other s.lows j t.col new_low (pos 0) apart) (get_or-set_other s.highs j t.col new_high (pos 0) apart)
 
 -- the greatest activity over the box with other ends of a column

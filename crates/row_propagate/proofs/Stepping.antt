@@ -29,7 +29,8 @@ not_emptied : (b : Bool) (col : ℕ) → cond b (Empty col) Open ≡ Open → b 
 not_emptied true col same = sym (ap is_open same)
 not_emptied false col same = refl
 
-ordered_at : (s : Sides) (col : ℕ) → emptied s col ≡ Open → int_at s.lows col ≤ℤ int_at s.highs col
+-- what an open outcome says of the column
+pub ordered_at : (s : Sides) (col : ℕ) → emptied s col ≡ Open → int_at s.lows col ≤ℤ int_at s.highs col
 ordered_at s col same =
     let fails : int_lt (int_at s.highs col) (int_at s.lows col) ≡ false = not_emptied _ col same in
     omega (arith, ints)

@@ -5,3 +5,4 @@ pub mod Lawful
 pub mod Points
 pub mod Kept
 pub mod Moves
+pub mod Quiet

@@ -1,12 +1,13 @@
 ghost use Rattle.std.specs.Prelude.{◌≡◌, ◌++◌, ◌<◌, ◌≤◌, ◌^◌, [], length, slice_index_or, OnOk, IfOk};
 ghost use Rattle.ip_core.specs.Boxes.{IsWithinReach, greatest_activity as greatest_activity_of};
 ghost use Rattle.ip_core.specs.Numbers.{int_at};
-ghost use Rattle.ip_core.specs.Rows.{AreRows};
+ghost use Rattle.ip_core.specs.Rows.{AreReady, AreRows};
 ghost use Rattle.ip_core.specs.Seq.{Seq};
 ghost use Rattle.ip_core.specs.Sides.{Sides};
 ghost use Rattle.ip_core.specs.declared.model.ModelParts.{ModelParts};
 ghost use Rattle.ip_core.specs.declared.row.Row.{Row as RowValue};
 ghost use Rattle.row_propagate.specs.Kept.{AreColumns, AreKeepable, AreSums, IsKept, IsMovable, IsMove, with_ends};
+ghost use Rattle.row_propagate.specs.Moves.{HaveTerms};
 ghost use Rattle.row_propagate.specs.Replay.{no_row};
 
 use crate::columns::columns_of;
@@ -46,6 +47,64 @@ impl Activities {
         let sums = sums_of(alloc, rows, cuts, bounds)?;
         let columns = columns_of(alloc, bounds.lows().len(), rows, cuts)?;
         Ok(Activities { sums, columns })
+    }
+
+    /// The sums alone, without the columns' entries.
+    pub(crate) fn unindexed(
+        alloc: Global,
+        rows: &[Row],
+        cuts: &[Row],
+        bounds: &Bounds,
+    ) -> Result<Activities, OutOfMemory>
+        requires rows { AreReady bounds.now rows.now }
+        requires cuts { AreReady bounds.now cuts.now }
+        ensures sums { IfOk result (λ a. AreSums (rows.now ++ cuts.now) bounds.now a.sums) }
+        ensures columns { IfOk result (λ a. a.columns ≡ []) }
+    {
+        let sums = sums_of(alloc, rows, cuts, bounds)?;
+        let columns = List::new(alloc);
+        Ok(Activities { sums, columns })
+    }
+
+    /// Makes the entries of the columns, where they haven't been made.
+    pub(crate) fn index(
+        &mut self,
+        alloc: Global,
+        count: usize,
+        rows: &[Row],
+        cuts: &[Row],
+    ) -> Result<(), OutOfMemory>
+        requires few_rows { length rows.now ≤ 2 ^ 30 }
+        requires few_cuts { length cuts.now ≤ 2 ^ 30 }
+        requires rows { HaveTerms count rows.now }
+        requires cuts { HaveTerms count cuts.now }
+        ensures sums { self.new.sums ≡ self.old.sums }
+        ensures ok { OnOk result (
+            (0 < length self.old.columns →
+            AreColumns count (rows.now ++ cuts.now) self.old.columns) →
+            AreColumns count (rows.now ++ cuts.now) self.new.columns) }
+    {
+        if !self.columns.is_empty() {
+            return Ok(());
+        }
+        self.columns = columns_of(alloc, count, rows, cuts)?;
+        Ok(())
+    }
+
+    /// The greatest activity of the row at a place.
+    pub(crate) fn sum(&self, place: usize) -> i64
+        requires { place < length self.now.sums }
+        ensures { result ≡ int_at self.now.sums place }
+    {
+        self.sums.as_slice()[place]
+    }
+
+    /// The entries of a column.
+    pub(crate) fn column(&self, col: u32) -> &[Term]
+        requires { col < length self.now.columns }
+        ensures { result.now ≡ slice_index_or self.now.columns col [] }
+    {
+        column_of(&self.columns, col)
     }
 
     /// The greatest activity of a row over the kept box: first the model's rows are numbered, and then the cuts.

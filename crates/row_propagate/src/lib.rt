@@ -17,6 +17,8 @@ mod single;
 mod sums;
 #[cfg(test)]
 mod tests;
+mod visiting;
+mod visits;
 
 pub use activities::Activities;
 pub use outcome::{Outcome, PassRun};

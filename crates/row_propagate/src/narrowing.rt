@@ -1,10 +1,10 @@
-ghost use Rattle.std.specs.Prelude.{◌≡◌, ◌≢◌, ◌<◌, length, IfSome};
+ghost use Rattle.std.specs.Prelude.{◌≡◌, ◌≢◌, ◌<◌, ◌≤◌, length, unsigned_abs, IfSome};
 ghost use Rattle.ip_core.specs.Rows.{IsReady};
-ghost use Rattle.row_propagate.specs.Rounding.{narrowed, narrower_high as narrower_high_of, narrower_low as narrower_low_of, narrower_bound as narrower_bound_of, tightening_of};
+ghost use Rattle.row_propagate.specs.Rounding.{narrowed, narrower_high as narrower_high_of, narrower_low as narrower_low_of, narrower_bound as narrower_bound_of, rounded_bound as rounded_bound_of, tightening_of};
 
 use crate::activity::{coefficient, remainder};
 use crate::quotient::{ceiling_quotient, floor_quotient};
-use ip_core::{Bounds, Row, RowRef, Tighten};
+use ip_core::{Bounds, MAX_WIDTH, Row, RowRef, Tighten};
 
 /// A bound that is narrower than a column's own: a new low, or a new high.
 #[derive(Clone, Copy, Debug, PartialEq, Eq)]
@@ -46,6 +46,17 @@ pub fn narrower_bound(row: &Row, bounds: &Bounds, col: u32) -> Option<Narrowing>
 {
     let left = remainder(row, bounds, col);
     let coef = coefficient(row.terms.as_slice(), col);
+    rounded_bound(bounds, col, left, coef)
+}
+
+/// The bound by what is left to a column and its coefficient, where it is narrower than the column's own.
+pub fn rounded_bound(bounds: &Bounds, col: u32, left: i64, coef: i64) -> Option<Narrowing>
+    requires known { col < length bounds.now.lows }
+    requires left { unsigned_abs left ≤ MAX_WIDTH }
+    requires coef { unsigned_abs coef ≤ MAX_WIDTH }
+    ensures value { result ≡ rounded_bound_of bounds.now col left coef }
+    ensures changes { IfSome result (λ bound. narrowed bounds.now col bound ≢ bounds.now) }
+{
     if coef > 0 {
         narrower_low(bounds, col, ceiling_quotient(left, coef))
     } else if coef < 0 {

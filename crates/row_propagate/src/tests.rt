@@ -1,4 +1,8 @@
-use crate::{Outcome, PassRun, conflict, propagate, tighten};
+ghost use Rattle.std.specs.Prelude.{◌<◌, length};
+ghost use Rattle.ip_core.specs.Boxes.{IsWithin};
+ghost use Rattle.ip_core.specs.Sides.{HasNoEmpty};
+
+use crate::{Activities, Outcome, PassRun, conflict, propagate, tighten};
 use ip_core::{
     Bounds, List, Model, ModelParts, Name, OutOfMemory, Row, RowRef, Term, Text, Tighten,
 };
@@ -304,6 +308,238 @@ fn judges_one_row(rt: HostRuntime) -> Result<(), Fail> {
     for case in &JUDGED {
         let holds = judges_so(alloc, case)?;
         assert!(rt; holds, "at {case:?}");
+    }
+    Ok(())
+}
+
+/// The greatest activity of a model's first row over its root box, and then where column 0 is at most 0.
+fn first_activities(alloc: Global, model: &Model) -> Result<Option<(i128, i128)>, OutOfMemory> {
+    let root = model.root();
+    let mut narrowed = root.copy(alloc)?;
+    if model.rows().len() == 0 || narrowed.lows().len() == 0 {
+        return Ok(None);
+    }
+    narrowed.cut_high(0, 0);
+    if root.first_empty().is_some() || narrowed.first_empty().is_some() {
+        return Ok(None);
+    }
+    activities_before_and_after(alloc, model, &narrowed)
+}
+
+/// The greatest activity of a model's first row over its root box, and then where column 0 has gone to its ends in
+/// another box within it.
+fn activities_before_and_after(
+    alloc: Global,
+    model: &Model,
+    narrowed: &Bounds,
+) -> Result<Option<(i128, i128)>, OutOfMemory>
+    requires row { 0 < length model.now.rows }
+    requires column { 0 < length narrowed.now.lows }
+    requires solid { HasNoEmpty model.now.root }
+    requires narrow { HasNoEmpty narrowed.now }
+    requires within { IsWithin model.now.root narrowed.now }
+{
+    let root = model.root();
+    let mut kept = Activities::of(alloc, model, &model.rows()[..0], root)?;
+    let before = kept.greatest(0);
+    kept.moved(0, root.get(0), narrowed.get(0));
+    Ok(Some((before, kept.greatest(0))))
+}
+
+#[test]
+fn keeps_activities(rt: HostRuntime) -> Result<(), Fail> {
+    let alloc = rt.alloc();
+    let model = model(alloc, ZERO, [1, 1, 1], HALVES)?;
+    assert_eq!(rt; first_activities(alloc, &model)?, Some((6, 4)));
+    Ok(())
+}
+
+/// The most that terms add over a box, without those at the column `apart`.
+fn plain_most(terms: &[Term], lows: &[i64], highs: &[i64], apart: u32) -> i64 {
+    let mut most = 0i64;
+    for term in terms {
+        let col = term.col as usize;
+        if term.col != apart && col < lows.len() && col < highs.len() {
+            let low = term.coef.wrapping_mul(lows[col]);
+            let high = term.coef.wrapping_mul(highs[col]);
+            most = most.wrapping_add(low.max(high));
+        }
+    }
+    most
+}
+
+/// A quotient rounded down, and 0 by 0.
+fn plain_floor(number: i64, divisor: i64) -> i64 {
+    let quotient = number.checked_div(divisor).unwrap_or(0);
+    let left = number.checked_rem(divisor).unwrap_or(0);
+    if left != 0 && (left < 0) != (divisor < 0) {
+        quotient.wrapping_sub(1)
+    } else {
+        quotient
+    }
+}
+
+/// The bound that a row gives for a term's column, over sums that are made anew: a low, or else a high.
+fn plain_bound(row: &Row, term: &Term, lows: &[i64], highs: &[i64]) -> (bool, i64) {
+    let others = plain_most(row.terms.as_slice(), lows, highs, term.col);
+    let left = row.least.wrapping_sub(others);
+    if term.coef > 0 {
+        let down = plain_floor(0i64.wrapping_sub(left), term.coef);
+        (true, 0i64.wrapping_sub(down))
+    } else {
+        (false, plain_floor(left, term.coef))
+    }
+}
+
+/// A visit to a row in plain passes.
+fn plain_visit(
+    row: &Row,
+    name: RowRef,
+    lows: &mut [i64],
+    highs: &mut [i64],
+    steps: &mut List<Tighten>,
+) -> Result<Outcome, OutOfMemory> {
+    if plain_most(row.terms.as_slice(), lows, highs, u32::MAX) < row.least {
+        return Ok(Outcome::Conflict(name));
+    }
+    for term in row.terms.as_slice() {
+        let col = term.col as usize;
+        let (low, bound) = plain_bound(row, term, lows, highs);
+        if col < lows.len() && col < highs.len() {
+            if low && lows[col] < bound {
+                lows[col] = bound;
+                steps.push(step(name, term.col, true))?;
+            }
+            if !low && bound < highs[col] {
+                highs[col] = bound;
+                steps.push(step(name, term.col, false))?;
+            }
+            if highs[col] < lows[col] {
+                return Ok(Outcome::Empty(term.col));
+            }
+        }
+    }
+    Ok(Outcome::Open)
+}
+
+/// A plain pass over rows, and over them again as cuts.
+fn plain_pass(
+    rows: &[Row],
+    again: bool,
+    lows: &mut [i64],
+    highs: &mut [i64],
+    steps: &mut List<Tighten>,
+) -> Result<Outcome, OutOfMemory> {
+    let mut number = 0u32;
+    for row in rows {
+        let outcome = plain_visit(row, RowRef::Model(number), lows, highs, steps)?;
+        if outcome != Outcome::Open {
+            return Ok(outcome);
+        }
+        number = number.wrapping_add(1);
+    }
+    number = 0;
+    for row in rows {
+        if again {
+            let outcome = plain_visit(row, RowRef::Cut(number), lows, highs, steps)?;
+            if outcome != Outcome::Open {
+                return Ok(outcome);
+            }
+        }
+        number = number.wrapping_add(1);
+    }
+    Ok(Outcome::Open)
+}
+
+/// Plain passes over rows from a box, with their number: each sum is made anew.
+fn plain_passes(
+    rows: &[Row],
+    again: bool,
+    lows: &mut [i64],
+    highs: &mut [i64],
+    steps: &mut List<Tighten>,
+) -> Result<(Outcome, u32), OutOfMemory> {
+    for col in 0..3u32 {
+        let at = col as usize;
+        if at < lows.len() && at < highs.len() && highs[at] < lows[at] {
+            return Ok((Outcome::Empty(col), 0));
+        }
+    }
+    for passes in 1..11u32 {
+        let before = steps.len();
+        let outcome = plain_pass(rows, again, lows, highs, steps)?;
+        if outcome != Outcome::Open || steps.len() == before {
+            return Ok((outcome, passes));
+        }
+    }
+    Ok((Outcome::Open, 10))
+}
+
+/// The next state of a chain of draws.
+fn next_state(state: u64) -> u64 {
+    state
+        .wrapping_mul(6364136223846793005)
+        .wrapping_add(1442695040888963407)
+}
+
+/// A number from -`most` to `most`, drawn from a state, times a scale.
+fn drawn(state: u64, most: u32, scale: i64) -> i64 {
+    let range = u64::from(most).wrapping_mul(2).wrapping_add(1);
+    let above = (state >> 33).checked_rem(range).unwrap_or(0);
+    let value = (above as u32 as i64).wrapping_sub(i64::from(most));
+    value.wrapping_mul(scale)
+}
+
+/// What one model is drawn as: lows, highs and rows. Every fourth has large numbers.
+fn drawn_model(seed: u64) -> ([i64; 3], [i64; 3], Rows) {
+    let large = seed % 4 == 3;
+    let scale = if large { 1 << 27 } else { 1 };
+    let coef_scale = if large { 1 << 12 } else { 1 };
+    let mut state = next_state(seed);
+    let mut numbers = [0i64; 14];
+    for at in 0..14 {
+        state = next_state(state);
+        numbers[at] = if at < 3 {
+            drawn(state, 6, scale).wrapping_sub(scale)
+        } else if at < 6 {
+            drawn(state, 6, scale).wrapping_add(scale.wrapping_mul(4))
+        } else if at < 12 {
+            drawn(state, 5, coef_scale)
+        } else {
+            drawn(state, 30, scale.wrapping_mul(coef_scale))
+        };
+    }
+    let [a, b, c, d, e, f, g, h, i, j, k, l, m, n] = numbers;
+    ([a, b, c], [d, e, f], [([g, h, i], m), ([j, k, l], n)])
+}
+
+/// Whether passes over a drawn model come to what plain passes come to.
+fn agrees(alloc: Global, seed: u64) -> Result<bool, Fail> {
+    let (mut lows, mut highs, rows) = drawn_model(seed);
+    let again = seed % 3 == 1;
+    let model = model(alloc, lows, highs, rows)?;
+    let (run, bounds, steps) = propagated(alloc, &model, again)?;
+    let mut plain_steps = List::new(alloc);
+    let (outcome, passes) = plain_passes(
+        model.rows(),
+        again,
+        &mut lows,
+        &mut highs,
+        &mut plain_steps,
+    )?;
+    Ok(
+        run.outcome == outcome
+            && run.passes == passes
+            && bounds.lows() == lows.as_slice()
+            && bounds.highs() == highs.as_slice()
+            && steps.as_slice() == plain_steps.as_slice(),
+    )
+}
+
+#[test]
+fn agrees_with_plain_passes(rt: HostRuntime) -> Result<(), Fail> {
+    for seed in 0..100 {
+        assert!(rt; agrees(rt.alloc(), seed)?, "at {seed}");
     }
     Ok(())
 }

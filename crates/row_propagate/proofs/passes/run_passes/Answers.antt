@@ -1,23 +1,16 @@
 use Rattle.std.proofs.Common.{◌∙◌, ◌+◌, ◌-◌, sym, arith}
 use Rattle.ip_core.proofs.NarrowerBoxes.{within_both}
 use Rattle.row_propagate.specs.Passes.{open_run, run_of}
-use Rattle.row_propagate.proofs.Readiness.{are_ready_narrower}
 use Rattle.row_propagate.proofs.Going.{open_is, replayed_both}
 use Rattle.row_propagate.proofs.Passing.{is_due_after, no_more_closed, no_more_unchanged, last_pass, next_pass, passes_open, ten_passes}
 use Rattle.row_propagate.proofs.passes.run_passes.Goals as goal
 use Rattle.row_propagate.proofs.passes.run_passes.Goals.{then-not-is_open-via-then-not-is_open, then-not-is_open-via-else-not-is_open+then-len-before}
 
-pub run_pass-requires-clause-ready_rows : goal.run_pass-requires-clause-ready_rows
-run_pass-requires-clause-ready_rows c = are_ready_narrower c.args.bounds.now c.loop-passes.bounds c.args.rows.now c.loop-passes.invariant.within c.loop-passes.invariant.solid c.requires.ready_rows
-
-pub run_pass-requires-clause-ready_cuts : goal.run_pass-requires-clause-ready_cuts
-run_pass-requires-clause-ready_cuts c = are_ready_narrower c.args.bounds.now c.loop-passes.bounds c.args.cuts.now c.loop-passes.invariant.within c.loop-passes.invariant.solid c.requires.ready_cuts
-
 pub returns-then-not-is_open-clause-whole : goal.returns-then-not-is_open-clause-whole
 returns-then-not-is_open-clause-whole c =
     let before = open_run c.loop-passes.bounds c.loop-passes.steps in
     let after = run_of c.run_pass.new.bounds c.run_pass.new.steps c.in_ok-outcome.outcome in
-    last_pass c.args.rows.now c.args.cuts.now c.loop-passes.passes before after _ c.loop-passes-test.true c.loop-passes.invariant.whole c.in_ok-outcome.ensures.whole
+    last_pass c.args.model.now.rows c.args.cuts.now c.loop-passes.passes before after _ c.loop-passes-test.true c.loop-passes.invariant.whole c.in_ok-outcome.ensures.whole
     (elim c.then-not-is_open.branch [
       | then-not-is_open-via-then-not-is_open w ↦ no_more_closed c.loop-passes.bounds c.run_pass.new.bounds c.loop-passes.steps c.run_pass.new.steps c.in_ok-outcome.outcome (sym c.is_open.ensures ∙ w.if-not-is_open.true)
       | then-not-is_open-via-else-not-is_open+then-len-before w ↦ no_more_unchanged c.loop-passes.bounds c.run_pass.new.bounds c.loop-passes.steps c.run_pass.new.steps c.in_ok-outcome.outcome (sym w.len.ensures ∙ w.if-len-before.true ∙ c.len-before.ensures)
@@ -30,12 +23,12 @@ loop-passes-preserved c =
     let after = run_of c.run_pass.new.bounds c.run_pass.new.steps c.in_ok-outcome.outcome in
     let due = is_due_after c.loop-passes.bounds c.run_pass.new.bounds c.loop-passes.steps c.run_pass.new.steps c.in_ok-outcome.outcome open_outcome (λ same. c.if-len-before.false (c.len.ensures ∙ same ∙ sym c.len-before.ensures)) in
     record {
-      whole = passes_open c.args.rows.now c.args.cuts.now (10 - (c.loop-passes.passes + 1)) (c.loop-passes.passes + 1) c.run_pass.new.bounds c.run_pass.new.steps c.in_ok-outcome.outcome _ (open_is c.in_ok-outcome.outcome open_outcome) (next_pass c.args.rows.now c.args.cuts.now c.loop-passes.passes before after _ c.loop-passes-test.true c.loop-passes.invariant.whole c.in_ok-outcome.ensures.whole due);
+      whole = passes_open c.args.model.now.rows c.args.cuts.now (10 - (c.loop-passes.passes + 1)) (c.loop-passes.passes + 1) c.run_pass.new.bounds c.run_pass.new.steps c.in_ok-outcome.outcome _ (open_is c.in_ok-outcome.outcome open_outcome) (next_pass c.args.model.now.rows c.args.cuts.now c.loop-passes.passes before after _ c.loop-passes-test.true c.loop-passes.invariant.whole c.in_ok-outcome.ensures.whole due);
       within = within_both _ _ _ c.loop-passes.invariant.within c.run_pass.ensures.within;
-      solid = c.in_ok-outcome.ensures.solid (open_is c.in_ok-outcome.outcome open_outcome);
+      passing = c.in_ok-outcome.ensures.passing (open_is c.in_ok-outcome.outcome open_outcome);
       replays = replayed_both _ _ _ _ _ _ _ _ c.loop-passes.invariant.replays c.run_pass.ensures.replays;
     }
 
 pub returns-clause-whole : goal.returns-clause-whole
 returns-clause-whole c =
-    ten_passes c.args.rows.now c.args.cuts.now c.loop-passes.passes (open_run c.loop-passes.bounds c.loop-passes.steps) _ (omega (arith, c.loop-passes-test.false, c.loop-passes.auto.passes-end)) c.loop-passes.invariant.whole
+    ten_passes c.args.model.now.rows c.args.cuts.now c.loop-passes.passes (open_run c.loop-passes.bounds c.loop-passes.steps) _ (omega (arith, c.loop-passes-test.false, c.loop-passes.auto.passes-end)) c.loop-passes.invariant.whole
