@@ -13,15 +13,15 @@ use Rattle.ip_core.proofs.Activities.{conflict_meets_none}
 use Rattle.row_propagate.specs.declared.narrowing.Narrowing.{Narrowing}
 use Rattle.row_propagate.specs.declared.outcome.Outcome.{Outcome}
 use Rattle.row_propagate.specs.declared.outcome.Outcome.TheVariants.{Open, Conflict, Empty}
-use Rattle.row_propagate.specs.Rounding.{narrower_bound, narrowed}
-use Rattle.row_propagate.specs.Passes.{Run, counted_of, run_of, is_open, emptied, go_on, is_due, after_bound, after_column, after_columns, after_row, after_rows, after_pass, after_passes}
+use Rattle.row_propagate.specs.Rounding.{narrower_bound, narrower_box}
+use Rattle.row_propagate.specs.Passes.{Run, counted_run, run_of, is_open, outcome_of_column, go_on, is_due, after_bound, after_column, after_columns, after_row, after_rows, after_pass, after_passes}
 use Rattle.row_propagate.specs.Replay.{AreNamed, IsNamed, row_named}
 use Rattle.row_propagate.specs.Lawful.{IsCause, IsConflictAt, IsEmptyColumn}
 use Rattle.row_propagate.specs.Points.{HasMetPoints, HasNoMetPoint}
 use Rattle.row_propagate.proofs.Going.{open_is, model_naming, cut_naming}
 use Rattle.row_propagate.proofs.Keeping.{either}
 use Rattle.row_propagate.proofs.Named.{named_met, named_terms}
-use Rattle.row_propagate.proofs.Stepping.{narrowed_within, narrowed_solid}
+use Rattle.row_propagate.proofs.Stepping.{narrower_box_within, narrower_box_solid}
 
 -- the outcome of a run has its cause in the run's box, which has n columns
 pub record IsCaused (rows cuts : List Row) (n : ℕ) (run : Run) : Type 0 where
@@ -43,17 +43,17 @@ go_on_caused rows cuts n run next caused later = go_on_cases rows cuts n run nex
 solid_of : (rows cuts : List Row) (s : Sides) (outcome : Outcome) → outcome ≡ Open → IsCause rows cuts s outcome → HasNoEmpty s
 solid_of rows cuts s outcome same cause = subst (IsCause rows cuts s) same cause
 
-emptied_cases : (rows cuts : List Row) (s : Sides) (col : ℕ) (b : Bool) → int_lt (int_at s.highs col) (int_at s.lows col) ≡ b → col < length s.lows → (emptied s col ≡ Open → HasNoEmpty s) → IsCause rows cuts s (cond b (Empty col) Open)
-emptied_cases rows cuts s col true crossed known solid = record { known = known; empty = record { crossed = omega (arith, ints, crossed) } }
-emptied_cases rows cuts s col false ordered known solid = solid (ap (λ b. cond b (Empty col) Open) ordered)
+outcome_cases : (rows cuts : List Row) (s : Sides) (col : ℕ) (b : Bool) → int_lt (int_at s.highs col) (int_at s.lows col) ≡ b → col < length s.lows → (outcome_of_column s col ≡ Open → HasNoEmpty s) → IsCause rows cuts s (cond b (Empty col) Open)
+outcome_cases rows cuts s col true crossed known solid = record { known = known; empty = record { crossed = omega (arith, ints, crossed) } }
+outcome_cases rows cuts s col false ordered known solid = solid (ap (λ b. cond b (Empty col) Open) ordered)
 
 bound_caused : (rows cuts : List Row) (n : ℕ) (name : RowRef) (col : ℕ) (run : Run) (bound : Option Narrowing) → col < n → run.outcome ≡ Open → IsCaused rows cuts n run → IsCaused rows cuts n (after_bound name col run bound)
 bound_caused rows cuts n name col run None known going caused = caused
 bound_caused rows cuts n name col run (Some bound) known going caused =
-    let columns : length (narrowed run.sides col bound).lows ≡ n = (narrowed_within run.sides col bound).as_many_lows ∙ caused.columns in
+    let columns : length (narrower_box run.sides col bound).lows ≡ n = (narrower_box_within run.sides col bound).as_many_lows ∙ caused.columns in
     record {
       columns = columns;
-      cause = emptied_cases rows cuts (narrowed run.sides col bound) col _ refl (omega (arith, known, columns)) (narrowed_solid run.sides col bound (solid_of rows cuts run.sides run.outcome going caused.cause));
+      cause = outcome_cases rows cuts (narrower_box run.sides col bound) col _ refl (omega (arith, known, columns)) (narrower_box_solid run.sides col bound (solid_of rows cuts run.sides run.outcome going caused.cause));
     }
 
 columns_caused : (rows cuts : List Row) (n : ℕ) (name : RowRef) (row : Row) (terms : List Term) (run : Run) → All (IsTerm n) terms → run.outcome ≡ Open → IsCaused rows cuts n run → IsCaused rows cuts n (after_columns name row terms run)
@@ -109,7 +109,7 @@ passes_caused n root rows cuts zero run passes of_rows of_cuts going caused = ca
 passes_caused n root rows cuts (suc fuel) run passes of_rows of_cuts going caused =
     let after = after_pass rows cuts run in
     let next = pass_caused n root rows cuts run of_rows of_cuts going caused in
-    either (λ c. IsCaused rows cuts n c.run) (is_due run after) (after_passes fuel rows cuts after (passes + 1)) (counted_of after (passes + 1))
+    either (λ c. IsCaused rows cuts n c.run) (is_due run after) (after_passes fuel rows cuts after (passes + 1)) (counted_run after (passes + 1))
     (λ due. passes_caused n root rows cuts fuel after (passes + 1) of_rows of_cuts (due_open run after _ refl due) next)
     (λ over. next)
 

@@ -37,8 +37,8 @@ pub rows_next : (name : ℕ → RowRef) (rows : List Row) (i : ℕ) (d : Row) (r
 rows_next name rows i d run within = ap (λ rs. after_rows name i rs run) (drop_more rows i d within)
 
 -- steps after steps
-pub replayed_both : (rows cuts : List Row) (a b c : Sides) (first second third : List Tighten) → IsReplayed rows cuts a first b second → IsReplayed rows cuts b second c third → IsReplayed rows cuts a first c third
-replayed_both rows cuts a b c first second third before after = record { from = λ start same. after.from start (before.from start same) }
+pub replay_both : (rows cuts : List Row) (a b c : Sides) (first second third : List Tighten) → IsReplayed rows cuts a first b second → IsReplayed rows cuts b second c third → IsReplayed rows cuts a first c third
+replay_both rows cuts a b c first second third before after = record { from = λ start same. after.from start (before.from start same) }
 
 -- the rows and cuts have their names
 pub model_naming : (rows cuts : List Row) → AreNamed rows cuts Model rows

@@ -15,7 +15,7 @@ use Rattle.ip_core.proofs.Quotients.{ceiling_quotient-le, le-floor_quotient_nega
 use Rattle.row_propagate.specs.declared.narrowing.Narrowing.{Narrowing}
 use Rattle.row_propagate.specs.declared.narrowing.Narrowing.TheVariants.{Low, High}
 use Rattle.ip_core.specs.Rows.{own_coefficient, coefficient}
-use Rattle.row_propagate.specs.Rounding.{other_part, others_activity, remainder, narrower_low, narrower_high, rounded_bound, narrowed_by, tightened}
+use Rattle.row_propagate.specs.Rounding.{other_part, others_activity, remainder, narrower_low, narrower_high, rounded_bound, narrower_box_by, tight_box}
 use Rattle.row_propagate.specs.Points.{HasRowPoints}
 
 term_shared : (b : Bool) (c z most : ℤ) (x : ℤ) → (b ≡ true → z ≡ x) → (c *ℤ z) ≤ℤ most → (c *ℤ z) ≤ℤ (cond b (pos 0) most +ℤ (cond b c (pos 0) *ℤ x))
@@ -44,7 +44,7 @@ remainder-le n s x row col known long inside met = omega (arith, ints, met.reach
 
 -- the box with a bound put in still holds the point
 abbrev Keeps : Sides → List ℤ → ℕ → Option Narrowing → Type 0
-Keeps s x col bound = IsInside (narrowed_by s col bound) x
+Keeps s x col bound = IsInside (narrower_box_by s col bound) x
 
 inside_raised : (s : Sides) (x : List ℤ) (col : ℕ) (low : ℤ) → IsInside s x → low ≤ℤ int_at x col → IsInside (with_low s col low) x
 inside_raised s x col low inside le = record {
@@ -82,7 +82,7 @@ rounded_keeps s x col left coef inside le =
     (λ f. inside))
 
 -- no point that meets the row is lost by its rounded bound
-pub tightened_keeps : (row : Row) (s : Sides) (col : ℕ) → AreTerms (length s.lows) row.terms → HasRowPoints row s (tightened row s col)
-tightened_keeps row s col known = record {
+pub tight_box_keeps : (row : Row) (s : Sides) (col : ℕ) → AreTerms (length s.lows) row.terms → HasRowPoints row s (tight_box row s col)
+tight_box_keeps row s col known = record {
   each = λ x long inside met. rounded_keeps s x col (remainder s row col) (coefficient col row.terms) inside (remainder-le (length s.lows) s x row col known long inside met);
 }

@@ -12,7 +12,7 @@ use Rattle.ip_core.specs.declared.row.Row.{Row}
 use Rattle.ip_core.specs.declared.row.Term.{Term}
 use Rattle.row_propagate.specs.declared.narrowing.Narrowing.{Narrowing}
 use Rattle.row_propagate.specs.declared.narrowing.Narrowing.TheVariants.{Low, High}
-use Rattle.row_propagate.specs.Rounding.{other_part, others_activity, remainder, rounded_bound, narrower_bound, narrowed}
+use Rattle.row_propagate.specs.Rounding.{other_part, others_activity, remainder, rounded_bound, narrower_bound, narrower_box}
 use Rattle.row_propagate.specs.Kept.{coefs_at, moved_by, with_ends}
 use Rattle.row_propagate.specs.Quiet.{IsQuiet}
 use Rattle.row_propagate.proofs.Moving.{activity_moved, ends_apart}
@@ -61,12 +61,12 @@ sides_same : (lows lows' highs highs' : List ℤ) → lows ≡ lows' → highs �
 sides_same lows lows' highs highs' first second = ap₂ (λ a b. let s : Sides = record { lows = a; highs = b } in s) first second
 
 -- a narrower bound gives a column other ends
-pub narrowed_ends : (s : Sides) (col : ℕ) (bound : Narrowing) → col < length s.lows → col < length s.highs → narrowed s col bound ≡ with_ends s col (int_at (narrowed s col bound).lows col) (int_at (narrowed s col bound).highs col)
-narrowed_ends s col (Low low) of_lows of_highs =
+pub narrower_box_ends : (s : Sides) (col : ℕ) (bound : Narrowing) → col < length s.lows → col < length s.highs → narrower_box s col bound ≡ with_ends s col (int_at (narrower_box s col bound).lows col) (int_at (narrower_box s col bound).highs col)
+narrower_box_ends s col (Low low) of_lows of_highs =
     sides_same (set s.lows col (int_max (int_at s.lows col) low)) _ s.highs _
     (ap (set s.lows col) (sym (get_or-set_same s.lows col (int_max (int_at s.lows col) low) (pos 0) of_lows)))
     (sym (set-get_or s.highs col (pos 0)))
-narrowed_ends s col (High high) of_lows of_highs =
+narrower_box_ends s col (High high) of_lows of_highs =
     sides_same s.lows _ (set s.highs col (int_min (int_at s.highs col) high)) _
     (sym (set-get_or s.lows col (pos 0)))
     (ap (set s.highs col) (sym (get_or-set_same s.highs col (int_min (int_at s.highs col) high) (pos 0) of_highs)))

@@ -15,24 +15,24 @@ use Rattle.ip_core.proofs.NarrowerBoxes.{within_raised, within_lowered}
 use Rattle.row_propagate.specs.declared.narrowing.Narrowing.{Narrowing}
 use Rattle.row_propagate.specs.declared.narrowing.Narrowing.TheVariants.{Low, High}
 use Rattle.row_propagate.specs.declared.outcome.Outcome.TheVariants.{Open, Empty}
-use Rattle.row_propagate.specs.Rounding.{narrower_bound, narrower_low, narrower_high, rounded_bound, narrowed, narrowed_by, remainder, tightened, tightening_of}
-use Rattle.row_propagate.specs.Passes.{emptied, is_open}
-use Rattle.row_propagate.specs.Replay.{HasRow, IsNamed, replayed, row_named}
+use Rattle.row_propagate.specs.Rounding.{narrower_bound, narrower_low, narrower_high, rounded_bound, narrower_box, narrower_box_by, remainder, tight_box, tightening_of}
+use Rattle.row_propagate.specs.Passes.{outcome_of_column, is_open}
+use Rattle.row_propagate.specs.Replay.{HasRow, IsNamed, replay, row_named}
 use Rattle.row_propagate.specs.Lawful.{IsLawfulStep, AreLawfulSteps, IsReplayed}
 
 -- a box with a narrower bound put in lies within the box
-pub narrowed_within : (s : Sides) (col : ℕ) (bound : Narrowing) → IsWithin s (narrowed s col bound)
-narrowed_within s col (Low low) = within_raised s col low
-narrowed_within s col (High high) = within_lowered s col high
+pub narrower_box_within : (s : Sides) (col : ℕ) (bound : Narrowing) → IsWithin s (narrower_box s col bound)
+narrower_box_within s col (Low low) = within_raised s col low
+narrower_box_within s col (High high) = within_lowered s col high
 
-not_emptied : (b : Bool) (col : ℕ) → cond b (Empty col) Open ≡ Open → b ≡ false
-not_emptied true col same = sym (ap is_open same)
-not_emptied false col same = refl
+column_open : (b : Bool) (col : ℕ) → cond b (Empty col) Open ≡ Open → b ≡ false
+column_open true col same = sym (ap is_open same)
+column_open false col same = refl
 
 -- what an open outcome says of the column
-pub ordered_at : (s : Sides) (col : ℕ) → emptied s col ≡ Open → int_at s.lows col ≤ℤ int_at s.highs col
+pub ordered_at : (s : Sides) (col : ℕ) → outcome_of_column s col ≡ Open → int_at s.lows col ≤ℤ int_at s.highs col
 ordered_at s col same =
-    let fails : int_lt (int_at s.highs col) (int_at s.lows col) ≡ false = not_emptied _ col same in
+    let fails : int_lt (int_at s.highs col) (int_at s.lows col) ≡ false = column_open _ col same in
     omega (arith, ints)
 
 -- a number is another, or isn't
@@ -40,31 +40,31 @@ pub at_or_apart : {P : Type 0} (k col : ℕ) → (k ≡ col → P) → (k ≢ co
 at_or_apart k col at apart = ⊎_elim (λ same. at same.1) (λ other. apart other.1) (eqb_tells k col)
 
 -- where its column isn't emptied, it has no empty column
-pub narrowed_solid : (s : Sides) (col : ℕ) (bound : Narrowing) → HasNoEmpty s → emptied (narrowed s col bound) col ≡ Open → HasNoEmpty (narrowed s col bound)
-narrowed_solid s col (Low low) solid same = record {
+pub narrower_box_solid : (s : Sides) (col : ℕ) (bound : Narrowing) → HasNoEmpty s → outcome_of_column (narrower_box s col bound) col ≡ Open → HasNoEmpty (narrower_box s col bound)
+narrower_box_solid s col (Low low) solid same = record {
   all = λ k h. record {
     ordered = at_or_apart k col (λ e. rw e (ordered_at (with_low s col low) col same)) (λ apart. rw (get_or-set_other s.lows col k (int_max (int_at s.lows col) low) (pos 0) apart) (solid.all k (rw length-set at h)).ordered);
   };
 }
-narrowed_solid s col (High high) solid same = record {
+narrower_box_solid s col (High high) solid same = record {
   all = λ k h. record {
     ordered = at_or_apart k col (λ e. rw e (ordered_at (with_high s col high) col same)) (λ apart. rw (get_or-set_other s.highs col k (int_min (int_at s.highs col) high) (pos 0) apart) (solid.all k h).ordered);
   };
 }
 
 -- one more step replayed
-pub replayed_more : (named : RowRef → Row) (s : Sides) (steps : List Tighten) (step : Tighten) → replayed named s (steps ++ step ∷ []) ≡ tightened (named step.row) (replayed named s steps) step.col
-replayed_more named s [] step = refl
-replayed_more named s (first ∷ steps) step = replayed_more named (tightened (named first.row) s first.col) steps step
+pub replay_more : (named : RowRef → Row) (s : Sides) (steps : List Tighten) (step : Tighten) → replay named s (steps ++ step ∷ []) ≡ tight_box (named step.row) (replay named s steps) step.col
+replay_more named s [] step = refl
+replay_more named s (first ∷ steps) step = replay_more named (tight_box (named first.row) s first.col) steps step
 
-step_replays : (named : RowRef → Row) (name : RowRef) (col : ℕ) (bound : Narrowing) (s : Sides) → tightened (named (tightening_of name col bound).row) s (tightening_of name col bound).col ≡ tightened (named name) s col
+step_replays : (named : RowRef → Row) (name : RowRef) (col : ℕ) (bound : Narrowing) (s : Sides) → tight_box (named (tightening_of name col bound).row) s (tightening_of name col bound).col ≡ tight_box (named name) s col
 step_replays named name col (Low low) s = refl
 step_replays named name col (High high) s = refl
 
 -- one more lawful step
-pub lawful_more : (rows cuts : List Row) (s : Sides) (steps : List Tighten) (step : Tighten) → AreLawfulSteps rows cuts s steps → IsLawfulStep rows cuts (replayed (row_named rows cuts) s steps) step → AreLawfulSteps rows cuts s (steps ++ step ∷ [])
+pub lawful_more : (rows cuts : List Row) (s : Sides) (steps : List Tighten) (step : Tighten) → AreLawfulSteps rows cuts s steps → IsLawfulStep rows cuts (replay (row_named rows cuts) s steps) step → AreLawfulSteps rows cuts s (steps ++ step ∷ [])
 lawful_more rows cuts s [] step all last = (last, tt)
-lawful_more rows cuts s (first ∷ steps) step all last = (all.0, lawful_more rows cuts (tightened (row_named rows cuts first.row) s first.col) steps step all.1 last)
+lawful_more rows cuts s (first ∷ steps) step all last = (all.0, lawful_more rows cuts (tight_box (row_named rows cuts first.row) s first.col) steps step all.1 last)
 
 -- what a rounded bound says of the coefficient: it isn't 0, and its sign gives the side
 record IsSigned (name : RowRef) (col : ℕ) (coef : ℤ) (bound : Narrowing) : Type 0 where
@@ -109,12 +109,12 @@ step_lawful rows cuts name row s step col bound named solid known signed same =
     }
 
 -- a real tightening that is listed is replayed
-pub step_replayed : (rows cuts : List Row) (name : RowRef) (row : Row) (s : Sides) (steps : List Tighten) (col : ℕ) (bound : Narrowing) → IsNamed rows cuts name row → HasNoEmpty s → col < length s.lows → narrower_bound row s col ≡ Some bound → IsReplayed rows cuts s steps (narrowed s col bound) (steps ++ tightening_of name col bound ∷ [])
-step_replayed rows cuts name row s steps col bound row_name solid known some =
+pub step_replay : (rows cuts : List Row) (name : RowRef) (row : Row) (s : Sides) (steps : List Tighten) (col : ℕ) (bound : Narrowing) → IsNamed rows cuts name row → HasNoEmpty s → col < length s.lows → narrower_bound row s col ≡ Some bound → IsReplayed rows cuts s steps (narrower_box s col bound) (steps ++ tightening_of name col bound ∷ [])
+step_replay rows cuts name row s steps col bound row_name solid known some =
     let named = row_named rows cuts in
     record {
       from = λ start before. record {
-        replays = ap (narrowed_by s col) (sym some) ∙ ap (λ r. tightened r s col) (sym row_name.same) ∙ ap (λ b. tightened (named name) b col) before.replays ∙ sym (step_replays named name col bound (replayed named start steps)) ∙ sym (replayed_more named start steps (tightening_of name col bound));
+        replays = ap (narrower_box_by s col) (sym some) ∙ ap (λ r. tight_box r s col) (sym row_name.same) ∙ ap (λ b. tight_box (named name) b col) before.replays ∙ sym (step_replays named name col bound (replay named start steps)) ∙ sym (replay_more named start steps (tightening_of name col bound));
         lawful = lawful_more rows cuts start steps (tightening_of name col bound) before.lawful (subst (λ b. IsLawfulStep rows cuts b (tightening_of name col bound)) before.replays (step_lawful rows cuts name row s (tightening_of name col bound) col bound row_name solid known (bound_signed name row s col bound some) refl));
       };
     }

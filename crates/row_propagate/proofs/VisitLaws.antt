@@ -21,14 +21,14 @@ use Rattle.row_propagate.specs.declared.activities.Activities.{Activities}
 use Rattle.row_propagate.specs.declared.visits.Visits.{Visits}
 use Rattle.row_propagate.specs.declared.narrowing.Narrowing.{Narrowing}
 use Rattle.row_propagate.specs.declared.outcome.Outcome.TheVariants.{Open, Conflict, Empty}
-use Rattle.row_propagate.specs.Rounding.{narrower_bound, narrowed, remainder, rounded_bound}
-use Rattle.row_propagate.specs.Passes.{open_run, run_of, emptied, after_columns, after_row}
+use Rattle.row_propagate.specs.Rounding.{narrower_bound, narrower_box, remainder, rounded_bound}
+use Rattle.row_propagate.specs.Passes.{open_run, run_of, outcome_of_column, after_columns, after_row}
 use Rattle.ip_core.specs.Rows.{IsReady}
 use Rattle.row_propagate.specs.Replay.{no_row}
 use Rattle.row_propagate.specs.Kept.{coefs_at, entries, with_ends, AreColumns, AreKeepable, AreSums, IsKept, IsMove}
 use Rattle.row_propagate.specs.Moves.{AreEntries}
 use Rattle.row_propagate.specs.Quiet.{AreNarrowTerms, ArePlaced, AreQuiet, HasQuietLeft, IsLoose, IsPassing, IsQuiet, IsRowAt, IsVisitable, no_term, room_of}
-use Rattle.row_propagate.proofs.Stepping.{at_or_apart, narrowed_within, narrowed_solid}
+use Rattle.row_propagate.proofs.Stepping.{at_or_apart, narrower_box_within, narrower_box_solid}
 use Rattle.row_propagate.proofs.Transposing.{coefs_at-more, coefs_of_column, entries_known, none_at}
 use Rattle.row_propagate.proofs.Going.{model_naming, cut_naming}
 use Rattle.row_propagate.proofs.Movable.{both_rows}
@@ -36,7 +36,7 @@ use Rattle.ip_core.proofs.Reaching.{model_within_reach, row_ready}
 use Rattle.row_propagate.proofs.Own.{remainder_at, coefficient_at}
 use Rattle.row_propagate.proofs.Parts.{remainder_small}
 use Rattle.row_propagate.proofs.Loose.{loose_none, columns_to, quiet_row}
-use Rattle.row_propagate.proofs.Quieting.{quiet_apart, narrowed_ends}
+use Rattle.row_propagate.proofs.Quieting.{quiet_apart, narrower_box_ends}
 
 -- a row at a place is one of the model's
 valid_at : (m : ModelParts) (cuts : List Row) (s : Sides) (v : Visits) (place : ℕ) (name : RowRef) (row : Row) → IsPassing m cuts s v → IsRowAt m cuts place name row → IsRow (length m.cols) m.root row
@@ -124,11 +124,11 @@ pub passing_kept : (m : ModelParts) (cuts : List Row) (s : Sides) (v : Visits) (
 passing_kept m cuts s v a passing same columns = record { fit = passing.fit; sums = subst (AreSums (m.rows ++ cuts) s) (sym same) passing.sums; columns = columns }
 
 -- a narrower bound moves a column
-pub move_of : (m : ModelParts) (cuts : List Row) (s : Sides) (v : Visits) (col : ℕ) (bound : Narrowing) (low high new_low new_high : ℤ) → IsPassing m cuts s v → col < length m.cols → low ≡ int_at s.lows col → high ≡ int_at s.highs col → new_low ≡ int_at (narrowed s col bound).lows col → new_high ≡ int_at (narrowed s col bound).highs col → new_low ≤ℤ new_high → IsMove m s col low high new_low new_high
+pub move_of : (m : ModelParts) (cuts : List Row) (s : Sides) (v : Visits) (col : ℕ) (bound : Narrowing) (low high new_low new_high : ℤ) → IsPassing m cuts s v → col < length m.cols → low ≡ int_at s.lows col → high ≡ int_at s.highs col → new_low ≡ int_at (narrower_box s col bound).lows col → new_high ≡ int_at (narrower_box s col bound).highs col → new_low ≤ℤ new_high → IsMove m s col low high new_low new_high
 move_of m cuts s v col bound low high new_low new_high passing known from_low from_high to_low to_high ordered =
-    let outer : IsWithin m.root (narrowed s col bound) = within_both m.root s (narrowed s col bound) passing.within (narrowed_within s col bound) in
+    let outer : IsWithin m.root (narrower_box s col bound) = within_both m.root s (narrower_box s col bound) passing.within (narrower_box_within s col bound) in
     let columns : length s.lows ≡ length m.cols = passing.within.as_many_lows ∙ passing.fit.box in
-    let there : col < length (narrowed s col bound).lows = omega (arith, known, columns, (narrowed_within s col bound).as_many_lows) in
+    let there : col < length (narrower_box s col bound).lows = omega (arith, known, columns, (narrower_box_within s col bound).as_many_lows) in
     record {
       known = known;
       from_low = sym from_low;
@@ -139,23 +139,23 @@ move_of m cuts s v col bound low high new_low new_high passing known from_low fr
       below = omega (arith, ints, to_high, outer.highs col there);
     }
 
-not_emptied_here : (s : Sides) (col : ℕ) (low high : ℤ) → low ≡ int_at s.lows col → high ≡ int_at s.highs col → low ≤ℤ high → emptied s col ≡ Open
-not_emptied_here s col low high at_low at_high ordered =
+column_open_here : (s : Sides) (col : ℕ) (low high : ℤ) → low ≡ int_at s.lows col → high ≡ int_at s.highs col → low ≤ℤ high → outcome_of_column s col ≡ Open
+column_open_here s col low high at_low at_high ordered =
     let fails : int_lt (int_at s.highs col) (int_at s.lows col) ≡ false = grind (arith, ints) in
     cond-false _ _ _ fails
 
 -- what passes keep after a column has moved
-pub passing_moved : (m : ModelParts) (cuts : List Row) (s : Sides) (v new : Visits) (columns : List (List Term)) (col : ℕ) (bound : Narrowing) (new_low new_high : ℤ) → IsPassing m cuts s v → col < length m.cols → new_low ≡ int_at (narrowed s col bound).lows col → new_high ≡ int_at (narrowed s col bound).highs col → new_low ≤ℤ new_high → AreColumns (length m.cols) (m.rows ++ cuts) columns → IsKept m cuts (with_ends s col new_low new_high) new.activities → HasQuietLeft (get_or columns col []) v.quiet new.quiet → IsPassing m cuts (narrowed s col bound) new
+pub passing_moved : (m : ModelParts) (cuts : List Row) (s : Sides) (v new : Visits) (columns : List (List Term)) (col : ℕ) (bound : Narrowing) (new_low new_high : ℤ) → IsPassing m cuts s v → col < length m.cols → new_low ≡ int_at (narrower_box s col bound).lows col → new_high ≡ int_at (narrower_box s col bound).highs col → new_low ≤ℤ new_high → AreColumns (length m.cols) (m.rows ++ cuts) columns → IsKept m cuts (with_ends s col new_low new_high) new.activities → HasQuietLeft (get_or columns col []) v.quiet new.quiet → IsPassing m cuts (narrower_box s col bound) new
 passing_moved m cuts s v new columns col bound new_low new_high passing known to_low to_high ordered made kept left =
     let all = m.rows ++ cuts in
     let count : length s.lows ≡ length m.cols = passing.within.as_many_lows ∙ passing.fit.box in
     let of_lows : col < length s.lows = omega (arith, known, count) in
     let of_highs : col < length s.highs = omega (arith, of_lows, passing.fit.paired) in
-    let same : narrowed s col bound ≡ with_ends s col new_low new_high = narrowed_ends s col bound of_lows of_highs ∙ ap₂ (λ a b. with_ends s col a b) (sym to_low) (sym to_high) in
+    let same : narrower_box s col bound ≡ with_ends s col new_low new_high = narrower_box_ends s col bound of_lows of_highs ∙ ap₂ (λ a b. with_ends s col a b) (sym to_low) (sym to_high) in
     record {
       fit = subst (AreKeepable m cuts) (sym same) kept.fit;
-      within = within_both m.root s (narrowed s col bound) passing.within (narrowed_within s col bound);
-      solid = narrowed_solid s col bound passing.solid (not_emptied_here (narrowed s col bound) col new_low new_high to_low to_high ordered);
+      within = within_both m.root s (narrower_box s col bound) passing.within (narrower_box_within s col bound);
+      solid = narrower_box_solid s col bound passing.solid (column_open_here (narrower_box s col bound) col new_low new_high to_low to_high ordered);
       sums = subst (λ b. AreSums all b new.activities.sums) (sym same) kept.sums;
       indexed = λ some. kept.columns;
       quiet = record {
@@ -170,8 +170,8 @@ passing_moved m cuts s v new columns col bound new_low new_high passing known to
 pub wake_none : (column : List Term) (flags : List Bool) → HasQuietLeft (take 0 column) flags flags
 wake_none column flags = record { len = refl; was = λ k flag. flag; apart = λ k flag. refl }
 
-woken_cases : (column : List Term) (i : ℕ) (d : Term) (old cur : List Bool) → i < length column → (get_or column i d).col < length cur → HasQuietLeft (take i column) old cur → (k : ℕ) → get_or (set cur (get_or column i d).col false) k false ≡ true → (get_or cur k false ≡ true) × (coefs_at k (take (i + 1) column) ≡ [])
-woken_cases column i d old cur within known left k flag =
+wake_cases : (column : List Term) (i : ℕ) (d : Term) (old cur : List Bool) → i < length column → (get_or column i d).col < length cur → HasQuietLeft (take i column) old cur → (k : ℕ) → get_or (set cur (get_or column i d).col false) k false ≡ true → (get_or cur k false ≡ true) × (coefs_at k (take (i + 1) column) ≡ [])
+wake_cases column i d old cur within known left k flag =
     let t = get_or column i d in
     at_or_apart k t.col
     (λ at. absurd (false≢true (sym (ap (λ j. get_or (set cur t.col false) j false) at ∙ get_or-set_same cur t.col false false known) ∙ flag)))
@@ -183,8 +183,8 @@ woken_cases column i d old cur within known left k flag =
 pub wake_more : (column : List Term) (i : ℕ) (d : Term) (old cur new : List Bool) → i < length column → (get_or column i d).col < length cur → new ≡ set cur (get_or column i d).col false → HasQuietLeft (take i column) old cur → HasQuietLeft (take (i + 1) column) old new
 wake_more column i d old cur new within known same left = record {
   len = ap length same ∙ length-set cur (get_or column i d).col false ∙ left.len;
-  was = λ k flag. left.was k (woken_cases column i d old cur within known left k (sym (ap (λ fs. get_or fs k false) same) ∙ flag)).0;
-  apart = λ k flag. (woken_cases column i d old cur within known left k (sym (ap (λ fs. get_or fs k false) same) ∙ flag)).1;
+  was = λ k flag. left.was k (wake_cases column i d old cur within known left k (sym (ap (λ fs. get_or fs k false) same) ∙ flag)).0;
+  apart = λ k flag. (wake_cases column i d old cur within known left k (sym (ap (λ fs. get_or fs k false) same) ∙ flag)).1;
 }
 
 item_size : {A : Type 0} (g : A → ℕ) (xs : List A) (i : ℕ) (d : A) → i < length xs → g (get_or xs i d) ≤ sum_by g xs

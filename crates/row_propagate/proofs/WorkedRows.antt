@@ -4,9 +4,9 @@ use Rattle.ip_core.specs.Boxes.{greatest_activity}
 use Rattle.ip_core.specs.declared.row.Row.{Row}
 use Rattle.ip_core.specs.declared.row_ref.RowRef.TheVariants.{Model, Cut}
 use Rattle.row_propagate.specs.declared.outcome.Outcome.TheVariants.{Open, Conflict, Empty}
-use Rattle.row_propagate.specs.Rounding.{tightened, tightening}
-use Rattle.row_propagate.specs.Passes.{propagated, Propagated}
-use Rattle.row_propagate.specs.Replay.{replayed, row_named}
+use Rattle.row_propagate.specs.Rounding.{tight_box, tightening}
+use Rattle.row_propagate.specs.Passes.{propagation_of, Propagation}
+use Rattle.row_propagate.specs.Replay.{replay, row_named}
 
 -- the box of one column from `low` to `high`
 abbrev box : ℤ → ℤ → Sides
@@ -20,11 +20,11 @@ abbrev at_most : Row
 at_most = record { terms = record { col = 0; coef = negsuc 1 } ∷ []; least = negsuc 2 }
 
 -- the low is raised to 2, rounded up
-raised : tightened at_least (box (pos 0) (pos 5)) 0 ≡ box (pos 2) (pos 5)
+raised : tight_box at_least (box (pos 0) (pos 5)) 0 ≡ box (pos 2) (pos 5)
 raised = refl
 
 -- the high is lowered to 1, rounded down
-lowered : tightened at_most (box (pos 0) (pos 5)) 0 ≡ box (pos 0) (pos 1)
+lowered : tight_box at_most (box (pos 0) (pos 5)) 0 ≡ box (pos 0) (pos 1)
 lowered = refl
 
 raising : tightening (Model 0) at_least (box (pos 0) (pos 5)) 0 ≡ Some (record { row = Model 0; col = 0; low = true })
@@ -38,21 +38,21 @@ no_raising : tightening (Model 0) at_least (box (pos 2) (pos 5)) 0 ≡ None
 no_raising = refl
 
 -- the first row raises the low to 2, and then the second asks for too much
-crossed : propagated (at_least ∷ at_most ∷ []) [] (box (pos 0) (pos 5)) ≡ record { sides = box (pos 2) (pos 5); steps = record { row = Model 0; col = 0; low = true } ∷ []; run = record { outcome = Conflict (Model 1); passes = 1; work = 3 } }
+crossed : propagation_of (at_least ∷ at_most ∷ []) [] (box (pos 0) (pos 5)) ≡ record { sides = box (pos 2) (pos 5); steps = record { row = Model 0; col = 0; low = true } ∷ []; run = record { outcome = Conflict (Model 1); passes = 1; work = 3 } }
 unfolding Rattle.row_propagate.specs.Passes.after_passes
 crossed = refl
 
 -- the same where the second row is a cut
-crossed_by_cut : propagated (at_least ∷ []) (at_most ∷ []) (box (pos 0) (pos 5)) ≡ record { sides = box (pos 2) (pos 5); steps = record { row = Model 0; col = 0; low = true } ∷ []; run = record { outcome = Conflict (Cut 0); passes = 1; work = 3 } }
+crossed_by_cut : propagation_of (at_least ∷ []) (at_most ∷ []) (box (pos 0) (pos 5)) ≡ record { sides = box (pos 2) (pos 5); steps = record { row = Model 0; col = 0; low = true } ∷ []; run = record { outcome = Conflict (Cut 0); passes = 1; work = 3 } }
 unfolding Rattle.row_propagate.specs.Passes.after_passes
 crossed_by_cut = refl
 
 -- the listed step leads to the last box
-replays : replayed (row_named (at_least ∷ []) (at_most ∷ [])) (box (pos 0) (pos 5)) (record { row = Model 0; col = 0; low = true } ∷ []) ≡ box (pos 2) (pos 5)
+replays : replay (row_named (at_least ∷ []) (at_most ∷ [])) (box (pos 0) (pos 5)) (record { row = Model 0; col = 0; low = true } ∷ []) ≡ box (pos 2) (pos 5)
 replays = refl
 
 -- a column that is empty at the start
-empty_start : propagated (at_least ∷ []) [] (box (pos 5) (pos 4)) ≡ record { sides = box (pos 5) (pos 4); steps = []; run = record { outcome = Empty 0; passes = 0; work = 0 } }
+empty_start : propagation_of (at_least ∷ []) [] (box (pos 5) (pos 4)) ≡ record { sides = box (pos 5) (pos 4); steps = []; run = record { outcome = Empty 0; passes = 0; work = 0 } }
 empty_start = refl
 
 -- 2x + 2y + 2z >= 3 and its other side, all columns 0 to 1: one pass that changes nothing
@@ -65,7 +65,7 @@ unit = record { lows = pos 0 ∷ pos 0 ∷ pos 0 ∷ []; highs = pos 1 ∷ pos 1
 greatest : greatest_activity unit (three (pos 2)).terms ≡ pos 6
 greatest = refl
 
-unchanged : propagated (three (pos 2) ∷ []) [] unit ≡ record { sides = unit; steps = []; run = record { outcome = Open; passes = 1; work = 4 } }
+unchanged : propagation_of (three (pos 2) ∷ []) [] unit ≡ record { sides = unit; steps = []; run = record { outcome = Open; passes = 1; work = 4 } }
 unfolding Rattle.row_propagate.specs.Passes.after_passes
 unchanged = refl
 
@@ -73,8 +73,8 @@ unchanged = refl
 abbrev above_by : ℤ → ℤ → Row
 above_by first second = record { terms = record { col = 0; coef = first } ∷ record { col = 1; coef = second } ∷ []; least = pos 1 }
 
-abbrev ten_passes : Propagated
-ten_passes = propagated (above_by (pos 1) (negsuc 0) ∷ above_by (negsuc 0) (pos 1) ∷ []) [] (record { lows = pos 0 ∷ pos 0 ∷ []; highs = pos 100 ∷ pos 100 ∷ [] })
+abbrev ten_passes : Propagation
+ten_passes = propagation_of (above_by (pos 1) (negsuc 0) ∷ above_by (negsuc 0) (pos 1) ∷ []) [] (record { lows = pos 0 ∷ pos 0 ∷ []; highs = pos 100 ∷ pos 100 ∷ [] })
 
 ten_boxes : ten_passes.sides ≡ record { lows = pos 19 ∷ pos 20 ∷ []; highs = pos 80 ∷ pos 81 ∷ [] }
 unfolding Rattle.row_propagate.specs.Passes.after_passes

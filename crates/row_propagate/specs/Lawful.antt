@@ -8,8 +8,8 @@ use Rattle.ip_core.specs.declared.row_ref.RowRef.{RowRef}
 use Rattle.ip_core.specs.declared.leaf.Tighten.{Tighten}
 use Rattle.row_propagate.specs.declared.outcome.Outcome.{Outcome}
 use Rattle.row_propagate.specs.declared.outcome.Outcome.TheVariants.{Open, Conflict, Empty}
-use Rattle.row_propagate.specs.Rounding.{tightened}
-use Rattle.row_propagate.specs.Replay.{HasRow, row_named, replayed}
+use Rattle.row_propagate.specs.Rounding.{tight_box}
+use Rattle.row_propagate.specs.Replay.{HasRow, row_named, replay}
 
 -- a step on a box: its row and its column exist, the column stands in the row, the side is that of the coefficient's
 -- sign, and no column of the box is empty
@@ -25,11 +25,11 @@ abbrev pub AreLawfulSteps : List Row → List Row → Sides → List Tighten →
 AreLawfulSteps rows cuts s [] = ⊤
 AreLawfulSteps rows cuts s (step ∷ steps) =
     IsLawfulStep rows cuts s step
-    × AreLawfulSteps rows cuts (tightened (row_named rows cuts step.row) s step.col) steps
+    × AreLawfulSteps rows cuts (tight_box (row_named rows cuts step.row) s step.col) steps
 
 -- a box came from another by lawful steps
 pub record IsAfter (rows cuts : List Row) (start s : Sides) (steps : List Tighten) : Type 0 where
-  pub replays : s ≡ replayed (row_named rows cuts) start steps
+  pub replays : s ≡ replay (row_named rows cuts) start steps
   pub lawful : AreLawfulSteps rows cuts start steps
 
 -- a box that came from another by lawful steps is followed by one that came from it by those listed then

@@ -76,7 +76,8 @@ pub record IsRowAt (m : ModelParts) (cuts : List Row) (place : ℕ) (name : RowR
   pub named : IsNamed m.rows cuts name row
 
 -- rows stand one after another from a place on, with their names
-pub record ArePlaced (m : ModelParts) (cuts : List Row) (first : ℕ) (name : ℕ → RowRef) (some : List Row)
+pub record ArePlaced (m : ModelParts) (cuts : List Row) (first : ℕ) (name : ℕ → RowRef)
+    (some : List Row)
     : Type 0 where
   pub at : (i : ℕ) (other : Row) → i < length some →
       IsRowAt m cuts (first + i) (name i) (slice_index_or some i other)

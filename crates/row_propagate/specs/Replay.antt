@@ -4,7 +4,7 @@ use Rattle.ip_core.specs.declared.row.Row.{Row}
 use Rattle.ip_core.specs.declared.row_ref.RowRef.{RowRef}
 use Rattle.ip_core.specs.declared.row_ref.RowRef.TheVariants.{Model, Cut}
 use Rattle.ip_core.specs.declared.leaf.Tighten.{Tighten}
-use Rattle.row_propagate.specs.Rounding.{tightened}
+use Rattle.row_propagate.specs.Rounding.{tight_box}
 
 -- a row that asks nothing
 abbrev pub no_row : Row
@@ -27,9 +27,10 @@ pub record IsNamed (rows cuts : List Row) (name : RowRef) (row : Row) : Type 0 w
 
 -- some rows have their names, by their places
 pub record AreNamed (rows cuts : List Row) (name : ℕ → RowRef) (some : List Row) : Type 0 where
-  pub at : (i : ℕ) (other : Row) → i < length some → IsNamed rows cuts (name i) (slice_index_or some i other)
+  pub at : (i : ℕ) (other : Row) → i < length some →
+      IsNamed rows cuts (name i) (slice_index_or some i other)
 
 -- the box after tightenings in order, where `named` gives the row of a name
-abbrev pub replayed : (RowRef → Row) → Sides → List Tighten → Sides
-replayed named s [] = s
-replayed named s (step ∷ steps) = replayed named (tightened (named step.row) s step.col) steps
+abbrev pub replay : (RowRef → Row) → Sides → List Tighten → Sides
+replay named s [] = s
+replay named s (step ∷ steps) = replay named (tight_box (named step.row) s step.col) steps

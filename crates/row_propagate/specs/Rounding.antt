@@ -44,17 +44,17 @@ abbrev pub narrower_bound : Row → Sides → ℕ → Option Narrowing
 narrower_bound row s col = rounded_bound s col (remainder s row col) (coefficient col row.terms)
 
 -- the box with a column's bound put in
-abbrev pub narrowed : Sides → ℕ → Narrowing → Sides
-narrowed s col (Low low) = with_low s col low
-narrowed s col (High high) = with_high s col high
+abbrev pub narrower_box : Sides → ℕ → Narrowing → Sides
+narrower_box s col (Low low) = with_low s col low
+narrower_box s col (High high) = with_high s col high
 
-abbrev pub narrowed_by : Sides → ℕ → Option Narrowing → Sides
-narrowed_by s col None = s
-narrowed_by s col (Some bound) = narrowed s col bound
+abbrev pub narrower_box_by : Sides → ℕ → Option Narrowing → Sides
+narrower_box_by s col None = s
+narrower_box_by s col (Some bound) = narrower_box s col bound
 
 -- the box after a row's rounded bound for a column
-abbrev pub tightened : Row → Sides → ℕ → Sides
-tightened row s col = narrowed_by s col (narrower_bound row s col)
+abbrev pub tight_box : Row → Sides → ℕ → Sides
+tight_box row s col = narrower_box_by s col (narrower_bound row s col)
 
 -- the real tightening by a row's name: its low is raised, or else its high is lowered
 abbrev pub tightening_of : RowRef → ℕ → Narrowing → Tighten

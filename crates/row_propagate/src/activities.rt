@@ -111,7 +111,8 @@ impl Activities {
     pub fn greatest(&self, row: u32) -> i128
         requires { row < length self.now.sums }
         ensures sum { result ≡ int_at self.now.sums row }
-        ensures value { (m : ModelParts) (cuts : Seq RowValue) (s : Sides) → IsKept m cuts s self.now →
+        ensures value { (m : ModelParts) (cuts : Seq RowValue) (s : Sides) →
+            IsKept m cuts s self.now →
             result ≡ greatest_activity_of s (slice_index_or (m.rows ++ cuts) row no_row).terms }
     {
         i128::from(self.sums.as_slice()[row as usize])
@@ -122,7 +123,8 @@ impl Activities {
     pub fn moved(&mut self, col: u32, old: (i64, i64), new: (i64, i64))
         requires { IsMovable self.old col old.0 old.1 new.0 new.1 }
         ensures columns { self.new.columns ≡ self.old.columns }
-        ensures keeps { (m : ModelParts) (cuts : Seq RowValue) (s : Sides) → IsKept m cuts s self.old →
+        ensures keeps { (m : ModelParts) (cuts : Seq RowValue) (s : Sides) →
+            IsKept m cuts s self.old →
             IsMove m s col old.0 old.1 new.0 new.1 →
             IsKept m cuts (with_ends s col new.0 new.1) self.new }
     {

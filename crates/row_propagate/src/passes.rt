@@ -4,11 +4,11 @@ ghost use Rattle.ip_core.specs.Rows.{AreRows};
 ghost use Rattle.ip_core.specs.Sides.{HasNoEmpty};
 ghost use Rattle.ip_core.specs.declared.row.Row.{Row as RowValue};
 ghost use Rattle.ip_core.specs.Seq.{Seq};
-ghost use Rattle.row_propagate.specs.Passes.{after_column, after_columns, after_pass, after_passes, after_row, after_rows, counted_of, emptied, name_of, open_run, propagated, run_of};
+ghost use Rattle.row_propagate.specs.Passes.{after_column, after_columns, after_pass, after_passes, after_row, after_rows, counted_run, outcome_of_column, name_of, open_run, propagation_of, run_of};
 ghost use Rattle.row_propagate.specs.Quiet.{IsPassing};
 ghost use Rattle.row_propagate.specs.Points.{HasMetPoints, HasNoMetPoint};
 ghost use Rattle.ip_core.specs.Rows.{AreReady, IsReady};
-ghost use Rattle.row_propagate.specs.Replay.{AreNamed, IsNamed, replayed, row_named};
+ghost use Rattle.row_propagate.specs.Replay.{AreNamed, IsNamed, replay, row_named};
 ghost use Rattle.row_propagate.specs.Lawful.{AreLawfulSteps, IsCause, IsReplayed};
 ghost use Rattle.row_propagate.specs.declared.outcome.Outcome.TheVariants.{Open};
 
@@ -70,7 +70,7 @@ fn run_passes(
     requires few_rows { length model.now.rows ≤ 2 ^ 30 }
     requires passing { IsPassing model.now cuts.now bounds.old visits.old }
     ensures whole { IfOk result (λ ended.
-        counted_of (run_of bounds.new steps.new ended.0) ended.1
+        counted_run (run_of bounds.new steps.new ended.0) ended.1
         ≡ after_passes 10 model.now.rows cuts.now (open_run bounds.old steps.old) 0) }
     ensures few { IfOk result (λ ended. ended.1 ≤ 10) }
     ensures within { IsWithin bounds.old bounds.new }
@@ -109,10 +109,13 @@ pub fn propagate(
     requires cuts { AreRows (length model.now.cols) model.now.root cuts.now }
     requires within { HasNoEmpty bounds.old → IsWithin model.now.root bounds.old }
     requires unlisted { steps.old ≡ [] }
-    ensures sides { OnOk result (bounds.new ≡ (propagated model.now.rows cuts.now bounds.old).sides) }
-    ensures steps { OnOk result (steps.new ≡ (propagated model.now.rows cuts.now bounds.old).steps) }
-    ensures run { IfOk result (λ run. run ≡ (propagated model.now.rows cuts.now bounds.old).run) }
-    ensures replays { bounds.new ≡ replayed (row_named model.now.rows cuts.now) bounds.old steps.new }
+    ensures sides { OnOk result (bounds.new ≡
+        (propagation_of model.now.rows cuts.now bounds.old).sides) }
+    ensures steps { OnOk result (steps.new ≡
+        (propagation_of model.now.rows cuts.now bounds.old).steps) }
+    ensures run { IfOk result (λ run.
+        run ≡ (propagation_of model.now.rows cuts.now bounds.old).run) }
+    ensures replays { bounds.new ≡ replay (row_named model.now.rows cuts.now) bounds.old steps.new }
     ensures lawful { AreLawfulSteps model.now.rows cuts.now bounds.old steps.new }
     ensures cause { IfOk result (λ run. IsCause model.now.rows cuts.now bounds.new run.outcome) }
     ensures within { IsWithin bounds.old bounds.new }

@@ -2,7 +2,7 @@ ghost use Rattle.std.specs.Prelude.{◌≡◌, ◌↔◌, ◌<◌, length, IsTru
 ghost use Rattle.ip_core.specs.Boxes.{IsConflict, IsWithin};
 ghost use Rattle.row_propagate.specs.Points.{HasNoRowPoint, HasRowPoints};
 ghost use Rattle.ip_core.specs.Rows.{IsReady};
-ghost use Rattle.row_propagate.specs.Rounding.{tightened, tightening};
+ghost use Rattle.row_propagate.specs.Rounding.{tight_box, tightening};
 
 use crate::narrowing::narrower_bound;
 use ip_core::{Bounds, Row, RowRef, Tighten, greatest_activity};
@@ -22,7 +22,7 @@ pub fn conflict(row: &Row, bounds: &Bounds) -> bool
 pub fn tighten(row: &Row, name: RowRef, bounds: &mut Bounds, col: u32) -> Option<Tighten>
     requires ready { IsReady bounds.old row.now }
     requires known { col < length bounds.old.lows }
-    ensures sides { bounds.new ≡ tightened row.now bounds.old col }
+    ensures sides { bounds.new ≡ tight_box row.now bounds.old col }
     ensures answer { result ≡ tightening name row.now bounds.old col }
     ensures unchanged { (result ≡ None) ↔ (bounds.new ≡ bounds.old) }
     ensures within { IsWithin bounds.old bounds.new }

@@ -69,7 +69,7 @@ fn step(row: RowRef, col: u32, low: bool) -> Tighten {
 }
 
 /// The passes over a model's rows from its root box, with no cuts, or with its own rows as cuts again.
-fn propagated(
+fn propagation(
     alloc: Global,
     model: &Model,
     again: bool,
@@ -198,7 +198,7 @@ fn ends_so(alloc: Global, case: &Case) -> Result<bool, Fail> {
     let ((lows, highs), rows, again, (outcome, passes, work), (last_lows, last_highs), count) =
         *case;
     let model = model(alloc, lows, highs, rows)?;
-    let (run, bounds, steps) = propagated(alloc, &model, again)?;
+    let (run, bounds, steps) = propagation(alloc, &model, again)?;
     let wanted = PassRun {
         outcome,
         passes,
@@ -231,7 +231,7 @@ fn lists(
     wanted: &[Tighten],
 ) -> Result<bool, Fail> {
     let model = model(alloc, ZERO, highs, rows)?;
-    let (_run, _bounds, steps) = propagated(alloc, &model, again)?;
+    let (_run, _bounds, steps) = propagation(alloc, &model, again)?;
     Ok(steps.as_slice() == wanted)
 }
 
@@ -518,7 +518,7 @@ fn agrees(alloc: Global, seed: u64) -> Result<bool, Fail> {
     let (mut lows, mut highs, rows) = drawn_model(seed);
     let again = seed % 3 == 1;
     let model = model(alloc, lows, highs, rows)?;
-    let (run, bounds, steps) = propagated(alloc, &model, again)?;
+    let (run, bounds, steps) = propagation(alloc, &model, again)?;
     let mut plain_steps = List::new(alloc);
     let (outcome, passes) = plain_passes(
         model.rows(),

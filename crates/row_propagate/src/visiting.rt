@@ -5,7 +5,7 @@ ghost use Rattle.ip_core.specs.Rows.{AreTerms, term_width};
 ghost use Rattle.ip_core.specs.Sides.{HasNoEmpty};
 ghost use Rattle.ip_core.specs.declared.row.Term.{Term as TermValue};
 ghost use Rattle.row_propagate.specs.Lawful.{IsReplayed};
-ghost use Rattle.row_propagate.specs.Passes.{after_column, after_columns, after_row, after_rows, emptied, name_of, open_run, run_of};
+ghost use Rattle.row_propagate.specs.Passes.{after_column, after_columns, after_row, after_rows, outcome_of_column, name_of, open_run, run_of};
 ghost use Rattle.row_propagate.specs.Quiet.{AreNarrowTerms, ArePlaced, IsLoose, IsPassing, IsRowAt, IsVisitable, no_term, room_of};
 ghost use Rattle.row_propagate.specs.Rounding.{narrower_bound as narrower_bound_of};
 ghost use Rattle.row_propagate.specs.declared.outcome.Outcome.TheVariants.{Open};
@@ -202,7 +202,7 @@ fn column_at(row: &Row, at: usize) -> u32
 /// Whether a column is empty.
 fn outcome_at(bounds: &Bounds, col: u32) -> Outcome
     requires { col < length bounds.now.lows }
-    ensures { result ≡ emptied bounds.now col }
+    ensures { result ≡ outcome_of_column bounds.now col }
 {
     let (low, high) = bounds.get(col);
     if high < low {
@@ -250,7 +250,8 @@ fn narrower_at(row: &Row, at: usize, bounds: &Bounds, room: i64) -> Option<Narro
     requires row { IsVisitable bounds.now row.now }
     requires known { at < length row.now.terms }
     requires room { room ≡ room_of bounds.now row.now }
-    ensures { result ≡ narrower_bound_of row.now bounds.now (slice_index_or row.now.terms at no_term).col }
+    ensures { result ≡ narrower_bound_of row.now bounds.now
+        (slice_index_or row.now.terms at no_term).col }
 {
     let left = left_of(&row.terms.as_slice()[at], bounds, room);
     let coef = coefficient_at(row, at);

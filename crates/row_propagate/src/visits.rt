@@ -34,9 +34,11 @@ impl Visits {
         requires few_cuts { length cuts.now ≤ 2 ^ 30 }
         requires rows { AreReady bounds.now rows.now }
         requires cuts { AreReady bounds.now cuts.now }
-        ensures sums { IfOk result (λ v. AreSums (rows.now ++ cuts.now) bounds.now v.activities.sums) }
+        ensures sums { IfOk result (λ v.
+            AreSums (rows.now ++ cuts.now) bounds.now v.activities.sums) }
         ensures columns { IfOk result (λ v. v.activities.columns ≡ []) }
-        ensures quiet { IfOk result (λ v. v.quiet ≡ replicate (length (rows.now ++ cuts.now)) false) }
+        ensures quiet { IfOk result (λ v.
+            v.quiet ≡ replicate (length (rows.now ++ cuts.now)) false) }
     {
         let activities = Activities::unindexed(alloc, rows, cuts, bounds)?;
         let quiet = List::of(vec![in alloc; false; rows.len() + cuts.len()]?);
@@ -94,9 +96,11 @@ impl Visits {
     /// Keeps other ends of a column: the rows in which it stands are no longer quiet.
     pub fn moved(&mut self, col: u32, old: (i64, i64), new: (i64, i64))
         requires kept { IsMovable self.old.activities col old.0 old.1 new.0 new.1 }
-        requires known { AreEntries (length self.old.quiet) (slice_index_or self.old.activities.columns col []) }
+        requires known { AreEntries (length self.old.quiet)
+            (slice_index_or self.old.activities.columns col []) }
         ensures columns { self.new.activities.columns ≡ self.old.activities.columns }
-        ensures keeps { (m : ModelParts) (cuts : Seq RowValue) (s : Sides) → IsKept m cuts s self.old.activities →
+        ensures keeps { (m : ModelParts) (cuts : Seq RowValue) (s : Sides) →
+            IsKept m cuts s self.old.activities →
             IsMove m s col old.0 old.1 new.0 new.1 →
             IsKept m cuts (with_ends s col new.0 new.1) self.new.activities }
         ensures quiet { HasQuietLeft (slice_index_or self.old.activities.columns col [])

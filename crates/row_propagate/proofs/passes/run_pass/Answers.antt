@@ -1,6 +1,6 @@
 use Rattle.std.proofs.Common.{◌≡◌, ◌∙◌, length, sym, ap, subst}
 use Rattle.ip_core.proofs.NarrowerBoxes.{within_both}
-use Rattle.row_propagate.proofs.Going.{replayed_both}
+use Rattle.row_propagate.proofs.Going.{replay_both}
 use Rattle.row_propagate.proofs.VisitLaws.{model_placed, cuts_placed}
 use Rattle.row_propagate.proofs.passes.run_pass.Goals as goal
 
@@ -11,4 +11,4 @@ pub visit_rows-requires-2-clause-placed : goal.visit_rows-requires-2-clause-plac
 visit_rows-requires-2-clause-placed c = cuts_placed c.args.model.now c.args.cuts.now _ (ap length c.rows-rows.ensures)
 
 pub returns-clause-replays : goal.returns-clause-replays
-returns-clause-replays c = replayed_both c.args.model.now.rows c.args.cuts.now _ _ _ _ _ _ c.visit_rows.ensures.replays c.visit_rows-2.ensures.replays
+returns-clause-replays c = replay_both c.args.model.now.rows c.args.cuts.now _ _ _ _ _ _ c.visit_rows.ensures.replays c.visit_rows-2.ensures.replays

@@ -1,7 +1,7 @@
 use Rattle.std.proofs.Common.{◌∙◌, ◌+◌, ◌-◌, sym, arith}
 use Rattle.ip_core.proofs.NarrowerBoxes.{within_both}
 use Rattle.row_propagate.specs.Passes.{open_run, run_of}
-use Rattle.row_propagate.proofs.Going.{open_is, replayed_both}
+use Rattle.row_propagate.proofs.Going.{open_is, replay_both}
 use Rattle.row_propagate.proofs.Passing.{is_due_after, no_more_closed, no_more_unchanged, last_pass, next_pass, passes_open, ten_passes}
 use Rattle.row_propagate.proofs.passes.run_passes.Goals as goal
 use Rattle.row_propagate.proofs.passes.run_passes.Goals.{then-not-is_open-via-then-not-is_open, then-not-is_open-via-else-not-is_open+then-len-before}
@@ -26,7 +26,7 @@ loop-passes-preserved c =
       whole = passes_open c.args.model.now.rows c.args.cuts.now (10 - (c.loop-passes.passes + 1)) (c.loop-passes.passes + 1) c.run_pass.new.bounds c.run_pass.new.steps c.in_ok-outcome.outcome _ (open_is c.in_ok-outcome.outcome open_outcome) (next_pass c.args.model.now.rows c.args.cuts.now c.loop-passes.passes before after _ c.loop-passes-test.true c.loop-passes.invariant.whole c.in_ok-outcome.ensures.whole due);
       within = within_both _ _ _ c.loop-passes.invariant.within c.run_pass.ensures.within;
       passing = c.in_ok-outcome.ensures.passing (open_is c.in_ok-outcome.outcome open_outcome);
-      replays = replayed_both _ _ _ _ _ _ _ _ c.loop-passes.invariant.replays c.run_pass.ensures.replays;
+      replays = replay_both _ _ _ _ _ _ _ _ c.loop-passes.invariant.replays c.run_pass.ensures.replays;
     }
 
 pub returns-clause-whole : goal.returns-clause-whole

@@ -4,9 +4,9 @@ use Rattle.ip_core.specs.Numbers.{int_at}
 use Rattle.ip_core.specs.Sides.{Sides}
 use Rattle.row_propagate.specs.Kept.{AreColumns, IsMovable}
 use Rattle.row_propagate.specs.Quiet.{HasQuietLeft, no_term}
-use Rattle.row_propagate.specs.Rounding.{narrower_bound, narrowed}
+use Rattle.row_propagate.specs.Rounding.{narrower_bound, narrower_box}
 use Rattle.row_propagate.proofs.Going.{open_is}
-use Rattle.row_propagate.proofs.Stepping.{narrowed_within, ordered_at, step_replayed}
+use Rattle.row_propagate.proofs.Stepping.{narrower_box_within, ordered_at, step_replay}
 use Rattle.row_propagate.proofs.VisitLaws.{visitable_at, sum_narrow, least_narrow, room_at, col_known, col_inside, made_columns, flags_known, passing_kept, move_of, passing_moved}
 use Rattle.row_propagate.proofs.visiting.tighten_at.Goals as goal
 
@@ -33,30 +33,30 @@ apply-requires c = col_inside c.args.model.now c.args.cuts.now c.args.bounds.now
 pub outcome_at-outcome-requires : goal.outcome_at-outcome-requires
 outcome_at-outcome-requires c =
     let inside = col_inside c.args.model.now c.args.cuts.now c.args.bounds.now c.args.visits.now c.args.place c.args.name c.args.row.now c.args.at c.column_at-col.result c.requires.passing c.requires.row c.requires.at c.column_at-col.ensures in
-    rw (c.apply.ensures, (narrowed_within c.args.bounds.now c.column_at-col.result c.in-Some.bound).as_many_lows) inside
+    rw (c.apply.ensures, (narrower_box_within c.args.bounds.now c.column_at-col.result c.in-Some.bound).as_many_lows) inside
 
 pub get-requires : goal.get-requires
 get-requires c =
     let inside = col_inside c.args.model.now c.args.cuts.now c.args.bounds.now c.args.visits.now c.args.place c.args.name c.args.row.now c.args.at c.column_at-col.result c.requires.passing c.requires.row c.requires.at c.column_at-col.ensures in
-    rw (c.apply.ensures, (narrowed_within c.args.bounds.now c.column_at-col.result c.in-Some.bound).as_many_lows) inside
+    rw (c.apply.ensures, (narrower_box_within c.args.bounds.now c.column_at-col.result c.in-Some.bound).as_many_lows) inside
 
 pub returns-then-not-is_open-clause-within : goal.returns-then-not-is_open-clause-within
-returns-then-not-is_open-clause-within c = rw c.apply.ensures (narrowed_within c.args.bounds.now c.column_at-col.result c.in-Some.bound)
+returns-then-not-is_open-clause-within c = rw c.apply.ensures (narrower_box_within c.args.bounds.now c.column_at-col.result c.in-Some.bound)
 
 pub returns-clause-within : goal.returns-clause-within
-returns-clause-within c = rw c.apply.ensures (narrowed_within c.args.bounds.now c.column_at-col.result c.in-Some.bound)
+returns-clause-within c = rw c.apply.ensures (narrower_box_within c.args.bounds.now c.column_at-col.result c.in-Some.bound)
 
 pub returns-then-not-is_open-clause-replays : goal.returns-then-not-is_open-clause-replays
 returns-then-not-is_open-clause-replays c =
     let inside = col_inside c.args.model.now c.args.cuts.now c.args.bounds.now c.args.visits.now c.args.place c.args.name c.args.row.now c.args.at c.column_at-col.result c.requires.passing c.requires.row c.requires.at c.column_at-col.ensures in
     let some = ap (narrower_bound c.args.row.now c.args.bounds.now) c.column_at-col.ensures ∙ sym c.narrower_at.ensures ∙ c.in-Some.is in
-    rw (c.apply.ensures, c.in_ok-push.ensures.ok, c.tightening.ensures) (step_replayed c.args.model.now.rows c.args.cuts.now c.args.name c.args.row.now c.args.bounds.now c.args.steps.now c.column_at-col.result c.in-Some.bound c.requires.row.named c.requires.passing.solid inside some)
+    rw (c.apply.ensures, c.in_ok-push.ensures.ok, c.tightening.ensures) (step_replay c.args.model.now.rows c.args.cuts.now c.args.name c.args.row.now c.args.bounds.now c.args.steps.now c.column_at-col.result c.in-Some.bound c.requires.row.named c.requires.passing.solid inside some)
 
 pub returns-clause-replays : goal.returns-clause-replays
 returns-clause-replays c =
     let inside = col_inside c.args.model.now c.args.cuts.now c.args.bounds.now c.args.visits.now c.args.place c.args.name c.args.row.now c.args.at c.column_at-col.result c.requires.passing c.requires.row c.requires.at c.column_at-col.ensures in
     let some = ap (narrower_bound c.args.row.now c.args.bounds.now) c.column_at-col.ensures ∙ sym c.narrower_at.ensures ∙ c.in-Some.is in
-    rw (c.apply.ensures, c.in_ok-push.ensures.ok, c.tightening.ensures) (step_replayed c.args.model.now.rows c.args.cuts.now c.args.name c.args.row.now c.args.bounds.now c.args.steps.now c.column_at-col.result c.in-Some.bound c.requires.row.named c.requires.passing.solid inside some)
+    rw (c.apply.ensures, c.in_ok-push.ensures.ok, c.tightening.ensures) (step_replay c.args.model.now.rows c.args.cuts.now c.args.name c.args.row.now c.args.bounds.now c.args.steps.now c.column_at-col.result c.in-Some.bound c.requires.row.named c.requires.passing.solid inside some)
 
 pub moved-requires-clause-kept : goal.moved-requires-clause-kept
 moved-requires-clause-kept c =
@@ -70,8 +70,8 @@ moved-requires-clause-kept c =
     let kept_columns = c.index.new.self.activities.columns in
     let known = col_known m cuts s v c.args.place c.args.name c.args.row.now c.args.at col passing c.requires.row c.requires.at c.column_at-col.ensures in
     let made = made_columns m cuts _ c.rows.result.now v.activities.columns kept_columns (ap length c.cols.ensures) c.rows.ensures c.in_ok-index.ensures.ok passing.indexed in
-    let to_low : c.get.result.0 ≡ int_at (narrowed s col bound).lows col = c.get.ensures.low ∙ ap (λ (b : Sides). int_at b.lows col) c.apply.ensures in
-    let to_high : c.get.result.1 ≡ int_at (narrowed s col bound).highs col = c.get.ensures.high ∙ ap (λ (b : Sides). int_at b.highs col) c.apply.ensures in
+    let to_low : c.get.result.0 ≡ int_at (narrower_box s col bound).lows col = c.get.ensures.low ∙ ap (λ (b : Sides). int_at b.lows col) c.apply.ensures in
+    let to_high : c.get.result.1 ≡ int_at (narrower_box s col bound).highs col = c.get.ensures.high ∙ ap (λ (b : Sides). int_at b.highs col) c.apply.ensures in
     let still = open_is c.outcome_at-outcome.result (sym c.is_open.ensures ∙ c.if-not-is_open.false) in
     let ends = ordered_at c.apply.new.bounds col (sym c.outcome_at-outcome.ensures ∙ still) in
     let ordered : c.get.result.0 ≤ℤ c.get.result.1 = omega (arith, ints, c.get.ensures.low, c.get.ensures.high, ends) in
@@ -105,8 +105,8 @@ returns-clause-passing c =
     let kept_columns = c.index.new.self.activities.columns in
     let known = col_known m cuts s v c.args.place c.args.name c.args.row.now c.args.at col passing c.requires.row c.requires.at c.column_at-col.ensures in
     let made = made_columns m cuts _ c.rows.result.now v.activities.columns kept_columns (ap length c.cols.ensures) c.rows.ensures c.in_ok-index.ensures.ok passing.indexed in
-    let to_low : c.get.result.0 ≡ int_at (narrowed s col bound).lows col = c.get.ensures.low ∙ ap (λ (b : Sides). int_at b.lows col) c.apply.ensures in
-    let to_high : c.get.result.1 ≡ int_at (narrowed s col bound).highs col = c.get.ensures.high ∙ ap (λ (b : Sides). int_at b.highs col) c.apply.ensures in
+    let to_low : c.get.result.0 ≡ int_at (narrower_box s col bound).lows col = c.get.ensures.low ∙ ap (λ (b : Sides). int_at b.lows col) c.apply.ensures in
+    let to_high : c.get.result.1 ≡ int_at (narrower_box s col bound).highs col = c.get.ensures.high ∙ ap (λ (b : Sides). int_at b.highs col) c.apply.ensures in
     let still = open_is c.outcome_at-outcome.result (sym c.is_open.ensures ∙ c.if-not-is_open.false) in
     let ends = ordered_at c.apply.new.bounds col (sym c.outcome_at-outcome.ensures ∙ still) in
     let ordered : c.get.result.0 ≤ℤ c.get.result.1 = omega (arith, ints, c.get.ensures.low, c.get.ensures.high, ends) in

@@ -5,7 +5,7 @@ use Rattle.ip_core.specs.declared.row.Term.{Term}
 use Rattle.ip_core.proofs.NarrowerBoxes.{within_both}
 use Rattle.row_propagate.specs.Passes.{after_columns, open_run}
 use Rattle.row_propagate.specs.Quiet.{AreNarrowTerms, IsLoose, no_term}
-use Rattle.row_propagate.proofs.Going.{columns_next, go_open, open_is, replayed_both}
+use Rattle.row_propagate.proofs.Going.{columns_next, go_open, open_is, replay_both}
 use Rattle.row_propagate.proofs.Loose.{columns_to}
 use Rattle.row_propagate.proofs.VisitLaws.{visitable_at, sum_narrow, least_narrow, room_at, none_before, terms_narrow}
 use Rattle.row_propagate.proofs.visiting.tighten_from.Goals as goal
@@ -17,7 +17,7 @@ pub returns-then-not-is_open-clause-within : goal.returns-then-not-is_open-claus
 returns-then-not-is_open-clause-within c = within_both _ _ _ c.loop-at.invariant.within c.tighten_at.ensures.within
 
 pub returns-then-not-is_open-clause-replays : goal.returns-then-not-is_open-clause-replays
-returns-then-not-is_open-clause-replays c = replayed_both c.args.model.now.rows c.args.cuts.now _ _ _ _ _ _ c.loop-at.invariant.replays c.tighten_at.ensures.replays
+returns-then-not-is_open-clause-replays c = replay_both c.args.model.now.rows c.args.cuts.now _ _ _ _ _ _ c.loop-at.invariant.replays c.tighten_at.ensures.replays
 
 pub room-room-requires-clause-sum : goal.room-room-requires-clause-sum
 room-room-requires-clause-sum c =
@@ -60,6 +60,6 @@ loop-at-preserved c =
       whole = sym (columns_next name row row.terms at no_term start within ∙ go_open _ _ _ c.in_ok-outcome.outcome (after_columns name row (drop (at + 1) row.terms)) c.in_ok-outcome.ensures.whole open_outcome ∙ columns_to name row row.terms s steps (at + 1) next no_term c.first_tight-at.ensures.from to (none_before s row c.room-room.result (at + 1) next visitable room to loose)) ∙ c.loop-at.invariant.whole;
       within = within_both _ _ _ c.loop-at.invariant.within c.tighten_at.ensures.within;
       passing = passing;
-      replays = replayed_both c.args.model.now.rows c.args.cuts.now _ _ _ _ _ _ c.loop-at.invariant.replays c.tighten_at.ensures.replays;
+      replays = replay_both c.args.model.now.rows c.args.cuts.now _ _ _ _ _ _ c.loop-at.invariant.replays c.tighten_at.ensures.replays;
       to = to;
     }

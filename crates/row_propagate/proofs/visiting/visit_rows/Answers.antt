@@ -2,7 +2,7 @@ use Rattle.std.proofs.Common.{◌≡◌, ◌∙◌, ◌+◌, drop, sym, ap, subs
 use Rattle.ip_core.proofs.NarrowerBoxes.{within_both}
 use Rattle.row_propagate.specs.Passes.{after_row, after_rows, name_of, open_run, run_of}
 use Rattle.row_propagate.specs.Quiet.{IsRowAt}
-use Rattle.row_propagate.proofs.Going.{open_is, go_open, rows_next, replayed_both}
+use Rattle.row_propagate.proofs.Going.{open_is, go_open, rows_next, replay_both}
 use Rattle.row_propagate.proofs.visiting.visit_rows.Goals as goal
 
 pub visit_row-requires-clause-row : goal.visit_row-requires-clause-row
@@ -17,10 +17,10 @@ pub returns-in_err-outcome-clause-within : goal.returns-in_err-outcome-clause-wi
 returns-in_err-outcome-clause-within c = within_both _ _ _ c.loop-index.invariant.within c.visit_row.ensures.within
 
 pub returns-then-not-is_open-clause-replays : goal.returns-then-not-is_open-clause-replays
-returns-then-not-is_open-clause-replays c = replayed_both c.args.model.now.rows c.args.cuts.now _ _ _ _ _ _ c.loop-index.invariant.replays c.visit_row.ensures.replays
+returns-then-not-is_open-clause-replays c = replay_both c.args.model.now.rows c.args.cuts.now _ _ _ _ _ _ c.loop-index.invariant.replays c.visit_row.ensures.replays
 
 pub returns-in_err-outcome-clause-replays : goal.returns-in_err-outcome-clause-replays
-returns-in_err-outcome-clause-replays c = replayed_both c.args.model.now.rows c.args.cuts.now _ _ _ _ _ _ c.loop-index.invariant.replays c.visit_row.ensures.replays
+returns-in_err-outcome-clause-replays c = replay_both c.args.model.now.rows c.args.cuts.now _ _ _ _ _ _ c.loop-index.invariant.replays c.visit_row.ensures.replays
 
 pub loop-index-preserved : goal.loop-index-preserved
 loop-index-preserved c =
@@ -35,5 +35,5 @@ loop-index-preserved c =
       whole = sym (rows_next name rows i row start c.loop-index-test.true ∙ go_open _ _ _ c.in_ok-outcome.outcome (after_rows name (i + 1) (drop (i + 1) rows)) whole open_outcome) ∙ c.loop-index.invariant.whole;
       within = within_both _ _ _ c.loop-index.invariant.within c.visit_row.ensures.within;
       passing = c.in_ok-outcome.ensures.passing (open_is c.in_ok-outcome.outcome open_outcome);
-      replays = replayed_both c.args.model.now.rows c.args.cuts.now _ _ _ _ _ _ c.loop-index.invariant.replays c.visit_row.ensures.replays;
+      replays = replay_both c.args.model.now.rows c.args.cuts.now _ _ _ _ _ _ c.loop-index.invariant.replays c.visit_row.ensures.replays;
     }
