@@ -18,7 +18,7 @@ use Rattle.sample_model.specs.declared.knapsack.Knapsack.{Knapsack}
 use Rattle.sample_model.specs.Draws.{AreAtMost, after, next}
 use Rattle.sample_model.specs.Wholes.{whole_decimal}
 use Rattle.sample_model.specs.Knapsacks.{greatest_sum, knapsack, row_coefficients, past_place, IsRow, IsKnapsack}
-use Rattle.sample_model.specs.Samples.{row_of, rows_of, entries_of, col_of, cols_of, model_of, sample, generated}
+use Rattle.sample_model.specs.Samples.{row_of, rows_of, entries_of, col_of, cols_of, model_of, sample, generated_model}
 use Rattle.sample_model.specs.Laws.{SamplesAreAdmitted}
 use Rattle.sample_model.proofs.Series.{series_length}
 use Rattle.sample_model.proofs.KnapsackLaws.{knapsack_is}
@@ -147,7 +147,7 @@ sample_plain rows cols z few_columns few_rows few_terms =
     (omega (arith, columns, few_columns)) (omega (arith, lines, few_rows)) (rw (columns, lines) few_terms)
 
 pub samples_are_admitted : SamplesAreAdmitted
-unfolding generated
+unfolding generated_model
 samples_are_admitted number =
     let plain : IsPlain (sample 100 400 number) = sample_plain 100 400 number (omega arith) (omega arith) (omega arith) in
     (admitted_model (sample 100 400 number) None, record { unrefused = not_refused (sample 100 400 number) plain; whole = refl })

@@ -4,7 +4,7 @@ use Rattle.ip_core.specs.Decimals.{Number}
 use Rattle.mps_model.specs.declared.model.Limit.TheVariants.{Unset, At}
 use Rattle.mps_model.specs.declared.model.RowKind.TheVariants.{Less}
 use Rattle.mps_model.specs.Prints.{printed}
-use Rattle.sample_model.specs.Draws.{next, drawn}
+use Rattle.sample_model.specs.Draws.{next, draw_below}
 use Rattle.sample_model.specs.Wholes.{whole_decimal}
 use Rattle.sample_model.specs.Knapsacks.{knapsack}
 use Rattle.sample_model.specs.Samples.{sample}
@@ -19,7 +19,7 @@ first_shifted : next 1 / 2 ^ 33 ≡ 908834774
 unfolding next
 first_shifted = refl
 
-first_upper : 1 + drawn 3 1 ≡ 3
+first_upper : 1 + draw_below 3 1 ≡ 3
 unfolding next
 first_upper = refl
 

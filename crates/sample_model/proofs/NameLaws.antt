@@ -8,7 +8,7 @@ use Rattle.ip_core.specs.Names.{IsName, IsNameByte}
 use Rattle.ip_core.proofs.DecimalDigits.{and_true, le_of_test}
 use Rattle.ip_core.proofs.DecimalPrints.{written_digits}
 use Rattle.mps_model.specs.MpsModels.{IsField, IsRowName, AreDistinct}
-use Rattle.sample_model.specs.Wholes.{numbered}
+use Rattle.sample_model.specs.Wholes.{numbered_name}
 
 -- names of a letter and a number
 
@@ -28,7 +28,7 @@ digits_visible (d ∷ ds) all =
     let k = and_true (is_digit d) (list_all is_digit ds) all in
     All-cons IsNameByte d ds (digit_visible d k.0) (digits_visible ds k.1)
 
-pub numbered_is : (letter n : ℕ) → 33 ≤ letter → letter ≤ 126 → n < 2 ^ 64 → IsName (numbered letter n)
+pub numbered_is : (letter n : ℕ) → 33 ≤ letter → letter ≤ 126 → n < 2 ^ 64 → IsName (numbered_name letter n)
 numbered_is letter n low high small =
     let short : length (decimal n) ≤ 20 = length-decimal-le 20 n (omega arith) (omega (arith, small)) small in
     record {
@@ -36,32 +36,32 @@ numbered_is letter n low high small =
       visible = All-cons IsNameByte letter (decimal n) (record { low = low; high = high }) (digits_visible (decimal n) (written_digits n small));
     }
 
-pub numbered_field : (letter n : ℕ) → 33 ≤ letter → letter ≤ 126 → n < 2 ^ 64 → IsField (numbered letter n)
-numbered_field letter n low high small = record { is_name = numbered_is letter n low high small; nonempty = λ e. different 0 (length (numbered letter n)) (omega arith) (sym (ap length e)) }
+pub numbered_field : (letter n : ℕ) → 33 ≤ letter → letter ≤ 126 → n < 2 ^ 64 → IsField (numbered_name letter n)
+numbered_field letter n low high small = record { is_name = numbered_is letter n low high small; nonempty = λ e. different 0 (length (numbered_name letter n)) (omega arith) (sym (ap length e)) }
 
 abbrev first : List ℕ → ℕ
 first name = slice_index_or name 0 0
 
 -- the name of a row
-pub row_name : (n : ℕ) → n < 2 ^ 64 → IsRowName (numbered 82 n)
+pub row_name : (n : ℕ) → n < 2 ^ 64 → IsRowName (numbered_name 82 n)
 row_name n small = record { field = numbered_field 82 n (omega arith) (omega arith) small; unmarked = λ e. different 39 82 (omega arith) (sym (ap first e)) }
 
-pub same_number : (letter m n : ℕ) → m < 2 ^ 64 → n < 2 ^ 64 → numbered letter m ≡ numbered letter n → m ≡ n
+pub same_number : (letter m n : ℕ) → m < 2 ^ 64 → n < 2 ^ 64 → numbered_name letter m ≡ numbered_name letter n → m ≡ n
 same_number letter m n small few e = decimal_injective m n small few (ap (drop 1) e)
 
 -- so many names, from a number on
 abbrev pub names : ℕ → ℕ → ℕ → List (List ℕ)
 names letter i zero = []
-names letter i (suc n) = numbered letter i ∷ names letter (i + 1) n
+names letter i (suc n) = numbered_name letter i ∷ names letter (i + 1) n
 
 pub names_length : (letter i n : ℕ) → length (names letter i n) ≡ n
 names_length letter i zero = refl
 names_length letter i (suc n) = ap suc (names_length letter (i + 1) n)
 
-name_at : (letter i n k : ℕ) → k < n → slice_index_or (names letter i n) k [] ≡ numbered letter (i + k)
+name_at : (letter i n k : ℕ) → k < n → slice_index_or (names letter i n) k [] ≡ numbered_name letter (i + k)
 name_at letter i zero k within = absurd (omega (arith, within))
-name_at letter i (suc n) zero within = ap (numbered letter) (omega arith)
-name_at letter i (suc n) (suc k) within = name_at letter (i + 1) n k (omega (arith, within)) ∙ ap (numbered letter) (omega arith)
+name_at letter i (suc n) zero within = ap (numbered_name letter) (omega arith)
+name_at letter i (suc n) (suc k) within = name_at letter (i + 1) n k (omega (arith, within)) ∙ ap (numbered_name letter) (omega arith)
 
 same_place : (letter n i j : ℕ) → n ≤ 2 ^ 20 → i < n → j < n → slice_index_or (names letter 0 n) i [] ≡ slice_index_or (names letter 0 n) j [] → i ≡ j
 same_place letter n i j few first second same =

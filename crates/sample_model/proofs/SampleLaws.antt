@@ -8,7 +8,7 @@ use Rattle.mps_model.specs.declared.model.MpsEntry.{MpsEntry}
 use Rattle.mps_model.specs.declared.model.MpsCol.{MpsCol}
 use Rattle.sample_model.specs.declared.knapsack.Knapsack.{Knapsack}
 use Rattle.sample_model.specs.Draws.{AreAtMost}
-use Rattle.sample_model.specs.Wholes.{whole_decimal, numbered}
+use Rattle.sample_model.specs.Wholes.{whole_decimal, numbered_name}
 use Rattle.sample_model.specs.Knapsacks.{greatest_sum, IsRow, IsKnapsack}
 use Rattle.sample_model.specs.Samples.{row_of, rows_of, with_entry, entries_of, col_of, cols_of, model_of}
 use Rattle.sample_model.proofs.KnapsackLaws.{product_small}
@@ -61,7 +61,7 @@ rows_length uppers i (row ∷ rows) = ap suc (rows_length uppers (i + 1) rows)
 
 row_names : (uppers : List ℕ) (i : ℕ) (rows : List (List ℕ)) → map (λ (row : MpsRow). row.name) (rows_of uppers i rows) ≡ names 82 i (length rows)
 row_names uppers i [] = refl
-row_names uppers i (row ∷ rows) = ap (λ rest. numbered 82 i ∷ rest) (row_names uppers (i + 1) rows)
+row_names uppers i (row ∷ rows) = ap (λ rest. numbered_name 82 i ∷ rest) (row_names uppers (i + 1) rows)
 
 -- ---- entries
 
@@ -152,7 +152,7 @@ cols_length rows j (upper ∷ uppers) (cost ∷ costs) same = ap suc (cols_lengt
 column_names : (rows : List (List ℕ)) (j : ℕ) (uppers costs : List ℕ) → length costs ≡ length uppers → map (λ (c : MpsCol). c.name) (cols_of rows j uppers costs) ≡ names 67 j (length uppers)
 column_names rows j [] costs same = refl
 column_names rows j (upper ∷ uppers) [] same = absurd (omega (arith, same))
-column_names rows j (upper ∷ uppers) (cost ∷ costs) same = ap (λ rest. numbered 67 j ∷ rest) (column_names rows (j + 1) uppers costs (omega (arith, same)))
+column_names rows j (upper ∷ uppers) (cost ∷ costs) same = ap (λ rest. numbered_name 67 j ∷ rest) (column_names rows (j + 1) uppers costs (omega (arith, same)))
 
 pub model_is : (k : Knapsack) → IsKnapsack k → IsMpsModel (model_of k)
 model_is k valid =

@@ -1,5 +1,5 @@
 use Rattle.std.proofs.Common.{◌≡◌, ◌∙◌, ◌+◌, ℕ, length, sym}
-use Rattle.sample_model.specs.Draws.{after, drawn, next}
+use Rattle.sample_model.specs.Draws.{after, draw_below, next}
 use Rattle.sample_model.specs.Knapsacks.{knapsack, past_place, row_coefficients}
 use Rattle.sample_model.specs.Samples.{sample}
 use Rattle.sample_model.proofs.SampleLaws.{rows_length, cols_length}
@@ -15,6 +15,6 @@ sample_rows rows cols z =
 pub sample_columns : (rows cols z : ℕ) → length (sample rows cols z).cols ≡ cols
 sample_columns rows cols z =
     let k = knapsack rows cols z in
-    let uppers : length k.uppers ≡ cols = series_length (λ y. 1 + drawn 3 y) next cols z in
-    let costs : length k.costs ≡ cols = series_length (λ y. 1 + drawn 100 y) next cols (after next cols z) in
+    let uppers : length k.uppers ≡ cols = series_length (λ y. 1 + draw_below 3 y) next cols z in
+    let costs : length k.costs ≡ cols = series_length (λ y. 1 + draw_below 100 y) next cols (after next cols z) in
     cols_length k.coefficients 0 k.uppers k.costs (costs ∙ sym uppers) ∙ uppers

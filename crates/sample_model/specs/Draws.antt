@@ -6,8 +6,8 @@ unfoldable pub next : ℕ → ℕ
 next z = (z * 6364136223846793005 + 1442695040888963407) % 2 ^ 64
 
 -- a draw below n from a state: the state that follows gives the number
-abbrev pub drawn : ℕ → ℕ → ℕ
-drawn n z = next z / 2 ^ 33 % n
+abbrev pub draw_below : ℕ → ℕ → ℕ
+draw_below n z = next z / 2 ^ 33 % n
 
 -- so many items one after the other, each of them given by a state and leading on to another
 abbrev pub series : {A : Type 0} → (ℕ → A) → (ℕ → ℕ) → ℕ → ℕ → List A
@@ -21,7 +21,7 @@ after past (suc count) z = after past count (past z)
 
 -- so many draws below n, 1 added to each
 abbrev pub positive_draws : ℕ → ℕ → ℕ → List ℕ
-positive_draws n count z = series (λ y. 1 + drawn n y) next count z
+positive_draws n count z = series (λ y. 1 + draw_below n y) next count z
 
 -- numbers of at most `most`
 pub record AreAtMost (most : ℕ) (numbers : List ℕ) : Type 0 where

@@ -1,15 +1,15 @@
 -- The numbers of a sample model, drawn from a state.
 use Rattle.std.specs.Prelude.{ℕ, ◌≡◌, ◌≤◌, ◌+◌, ◌*◌, ◌==◌, ◌^◌, if◌then◌else◌, List, [], ◌∷◌, length, All}
 use Rattle.sample_model.specs.declared.knapsack.Knapsack.{Knapsack}
-use Rattle.sample_model.specs.Draws.{next, drawn, series, after, positive_draws, AreAtMost}
+use Rattle.sample_model.specs.Draws.{next, draw_below, series, after, positive_draws, AreAtMost}
 
 -- the coefficient of a place: 1 plus a draw below 50 where a draw below 4 is 0, and 0 where it isn't
 abbrev pub coefficient : ℕ → ℕ
-coefficient z = if drawn 4 z == 0 then 1 + drawn 50 (next z) else 0
+coefficient z = if draw_below 4 z == 0 then 1 + draw_below 50 (next z) else 0
 
 -- the state after a place
 abbrev pub past_place : ℕ → ℕ
-past_place z = if drawn 4 z == 0 then next (next z) else next z
+past_place z = if draw_below 4 z == 0 then next (next z) else next z
 
 -- the coefficients of a row, column by column
 abbrev pub row_coefficients : ℕ → ℕ → List ℕ

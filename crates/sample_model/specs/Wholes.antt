@@ -14,5 +14,5 @@ whole_decimal n =
     else record { mantissa = pos (n / 10 ^ zeros n); exponent = pos (zeros n) }
 
 -- a letter and a number
-abbrev pub numbered : ℕ → ℕ → List ℕ
-numbered letter n = letter ∷ decimal n
+abbrev pub numbered_name : ℕ → ℕ → List ℕ
+numbered_name letter n = letter ∷ decimal n

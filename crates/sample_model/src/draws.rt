@@ -1,5 +1,5 @@
 ghost use Rattle.std.specs.Prelude.{◌≡◌, ◌<◌, ◌≤◌, ◌^◌, IfOk, OnOk};
-ghost use Rattle.sample_model.specs.Draws.{after, drawn, next, positive_draws as positive_draws_from};
+ghost use Rattle.sample_model.specs.Draws.{after, draw_below, next, positive_draws as positive_draws_from};
 
 use ip_core::{List, OutOfMemory};
 use std::alloc::Global;
@@ -23,7 +23,7 @@ impl Draws {
     /// Takes the next state, and gives its number below `n`.
     pub fn below(&mut self, n: u64) -> u64
         requires { 0 < n }
-        ensures value { result ≡ drawn n self.old.state }
+        ensures value { result ≡ draw_below n self.old.state }
         ensures state { self.new.state ≡ next self.old.state }
         ensures small { result < n }
     {

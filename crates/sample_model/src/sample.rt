@@ -1,10 +1,10 @@
 ghost use Rattle.std.specs.Prelude.{◌≡◌, ◌≤◌, ◌<◌, ◌^◌, length, IfOk};
 ghost use Rattle.mps_model.specs.MpsModels.{IsMpsModel};
 ghost use Rattle.sample_model.specs.Knapsacks.{IsKnapsack, IsRow};
-ghost use Rattle.sample_model.specs.Samples.{col_of, cols_of, entries_of, generated, model_of, row_of, rows_of, sample as sample_of};
+ghost use Rattle.sample_model.specs.Samples.{col_of, cols_of, entries_of, generated_model, model_of, row_of, rows_of, sample as sample_of};
 
 use crate::knapsack::{Knapsack, draw, greatest_sum};
-use crate::whole::{name, numbered, whole};
+use crate::whole::{name, numbered_name, whole_decimal};
 use ip_core::{Decimal, List, OutOfMemory};
 use mps_model::{Limit, MpsCol, MpsEntry, MpsModel, MpsRow, RowKind};
 use std::alloc::Global;
@@ -28,9 +28,9 @@ fn row(
 {
     let most = greatest_sum(coefficients, knapsack.uppers.as_slice());
     Ok(MpsRow {
-        name: numbered(alloc, b'R', at)?,
+        name: numbered_name(alloc, b'R', at)?,
         kind: RowKind::Less,
-        rhs: whole(most / 3),
+        rhs: whole_decimal(most / 3),
         range: None,
     })
 }
@@ -60,7 +60,7 @@ fn entries(alloc: Global, knapsack: &Knapsack, column: usize) -> Result<List<Mps
         if coefficient != 0 {
             entries.push(MpsEntry {
                 row: at as u32,
-                value: whole(coefficient),
+                value: whole_decimal(coefficient),
             })?;
         }
     }
@@ -81,18 +81,19 @@ fn column(
     ensures { IfOk result (λ col. col ≡ col_of knapsack.now.coefficients at upper cost) }
 {
     Ok(MpsCol {
-        name: numbered(alloc, b'C', at)?,
+        name: numbered_name(alloc, b'C', at)?,
         integer: true,
-        cost: whole(cost).negation(),
+        cost: whole_decimal(cost).negation(),
         entries: entries(alloc, knapsack, at)?,
         low: Limit::Unset,
-        high: Limit::At(whole(upper)),
+        high: Limit::At(whole_decimal(upper)),
     })
 }
 
 fn columns(alloc: Global, knapsack: &Knapsack) -> Result<List<MpsCol>, OutOfMemory>
     requires { IsKnapsack knapsack.now }
-    ensures { IfOk result (λ cols. cols ≡ cols_of knapsack.now.coefficients 0 knapsack.now.uppers knapsack.now.costs) }
+    ensures { let k = knapsack.now in
+        IfOk result (λ cols. cols ≡ cols_of k.coefficients 0 k.uppers k.costs) }
 {
     let uppers = knapsack.uppers.as_slice();
     let costs = knapsack.costs.as_slice();
@@ -142,9 +143,9 @@ fn sample(alloc: Global, rows: usize, cols: usize, number: u64) -> Result<MpsMod
 /// draw below 100, and the cost is negative. Then each row draws for each column: where a draw below 4 is 0, the
 /// coefficient is 1 plus a draw below 50, and elsewhere there is none. A row's right-hand side is a third of the sum of
 /// coefficient times upper bound, rounded down.
-#[tactic(auto, unfolding(crate::specs::Samples::generated))]
+#[tactic(auto, unfolding(crate::specs::Samples::generated_model))]
 pub fn generate(alloc: Global, number: u64) -> Result<MpsModel, OutOfMemory>
-    ensures value { IfOk result (λ m. m ≡ generated number) }
+    ensures value { IfOk result (λ m. m ≡ generated_model number) }
     ensures kept { IfOk result (λ m. IsMpsModel m) }
     ensures rows { IfOk result (λ m. length m.rows ≡ 100) }
     ensures columns { IfOk result (λ m. length m.cols ≡ 400) }

@@ -1,13 +1,13 @@
 ghost use Rattle.std.specs.Prelude.{◌≡◌, ◌<◌, ◌≤◌, ◌^◌, IfOk};
 ghost use Rattle.ip_core.specs.Names.{IsName};
-ghost use Rattle.sample_model.specs.Wholes.{numbered as numbered_text, whole_decimal};
+ghost use Rattle.sample_model.specs.Wholes.{numbered_name, whole_decimal};
 
 use ip_core::{Decimal, Name, OutOfMemory, Text};
 use itoa::Buffer;
 use std::alloc::Global;
 
 /// A whole number as a decimal.
-pub fn whole(number: u64) -> Decimal
+pub fn whole_decimal(number: u64) -> Decimal
     requires { number < 10 ^ 18 }
     ensures { result ≡ whole_decimal number }
 {
@@ -30,10 +30,10 @@ pub fn name(alloc: Global, bytes: &[u8]) -> Result<Name, OutOfMemory>
 }
 
 /// The name of a letter and a number.
-pub fn numbered(alloc: Global, letter: u8, number: usize) -> Result<Name, OutOfMemory>
+pub fn numbered_name(alloc: Global, letter: u8, number: usize) -> Result<Name, OutOfMemory>
     requires low { 33 ≤ letter }
     requires high { letter ≤ 126 }
-    ensures { IfOk result (λ name. name ≡ numbered_text letter number) }
+    ensures { IfOk result (λ name. name ≡ numbered_name letter number) }
 {
     let mut text = Text::new(alloc);
     text.push(letter)?;

@@ -1,7 +1,7 @@
 use Rattle.std.proofs.Common.{◌∙◌, ap}
 use Rattle.ip_core.specs.Decimals.{read_decimal}
 use Rattle.sample_model.proofs.WholeReads.{read_whole}
-use Rattle.sample_model.proofs.whole.whole.Goals as goal
+use Rattle.sample_model.proofs.whole.whole_decimal.Goals as goal
 
 pub unreachable-requires : goal.unreachable-requires
 unreachable-requires c =

@@ -1,6 +1,6 @@
 use Rattle.std.proofs.Common.{arith}
 use Rattle.sample_model.proofs.NameLaws.{numbered_is}
-use Rattle.sample_model.proofs.whole.numbered.Goals as goal
+use Rattle.sample_model.proofs.whole.numbered_name.Goals as goal
 
 pub unreachable-requires : goal.unreachable-requires
 unreachable-requires c =
