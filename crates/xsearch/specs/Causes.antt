@@ -7,7 +7,7 @@ use Rattle.plain_tasks.specs.LimitCauses.{HasLimitCause}
 use Rattle.plain_tasks.specs.Truth.{IsTrueAnswer}
 use Rattle.width_admit.specs.Admission.{Admits, refusal}
 use Rattle.width_admit.specs.declared.refusal.Refusal.{Refusal}
-use Rattle.sample_model.specs.Samples.{generated}
+use Rattle.sample_model.specs.Samples.{generated_model}
 use Rattle.xsearch_words.specs.Jobs.{job}
 use Rattle.xsearch_words.specs.declared.job.Job.{Job}
 use Rattle.xsearch_words.specs.declared.job.Job.TheVariants.{Solve, Alone, Show, Gen}
@@ -53,7 +53,7 @@ abbrev pub IsCausedBy : Job → ShelfState → ShelfState → Result Outcome Fai
 IsCausedBy (Solve asked) old new found = IsSolvedFile asked old new found
 IsCausedBy (Alone asked) old new found = IsSolvedFile asked old new found
 IsCausedBy (Show model) old new found = IsOfFile IsPrinted old new model found
-IsCausedBy (Gen number) old new found = IsPrinted (generated number) found
+IsCausedBy (Gen number) old new found = IsPrinted (generated_model number) found
 
 -- What words find has its cause in the job that they ask for. Where they ask nothing, they are refused. Want of memory is
 -- free.

@@ -1,5 +1,5 @@
 ghost use Rattle.std.specs.Prelude.{◌≡◌};
-ghost use Rattle.sample_model.specs.Samples.{generated};
+ghost use Rattle.sample_model.specs.Samples.{generated_model};
 ghost use Rattle.xsearch.specs.Causes.{IsPrinted};
 ghost use Rattle.xsearch.specs.Runs.{Ends};
 
@@ -16,7 +16,7 @@ use xsearch_words::Sink;
 /// The status is 0 where the text went out, 7 where the put failed, and 8 where memory could not be had.
 pub fn gen_command<O: Sink>(alloc: Global, number: u64, out: &mut O) -> u8
     ensures { Ends
-        (IsPrinted (generated number))
+        (IsPrinted (generated_model number))
         (record { out = O.told out.old; faults = O.faults out.old })
         (record { out = O.told out.new; faults = O.faults out.new })
         result }
@@ -26,7 +26,7 @@ pub fn gen_command<O: Sink>(alloc: Global, number: u64, out: &mut O) -> u8
 }
 
 fn show_sample(alloc: Global, number: u64) -> Result<Outcome, Failure>
-    ensures { IsPrinted (generated number) result }
+    ensures { IsPrinted (generated_model number) result }
 {
     match generate(alloc, number) {
         Ok(mps) => show_model(alloc, &mps),
