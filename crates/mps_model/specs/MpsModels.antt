@@ -22,7 +22,8 @@ pub record IsRowName (name : List ℕ) : Type 0 where
 
 -- no two places of a list hold the same
 pub record AreDistinct {A : Type 0} (items : List A) (default : A) : Type 0 where
-  pub each : (i j : ℕ) → i < length items → j < length items → slice_index_or items i default ≡ slice_index_or items j default → i ≡ j
+  pub each : (i j : ℕ) → i < length items → j < length items →
+      slice_index_or items i default ≡ slice_index_or items j default → i ≡ j
 
 abbrev pub IsRange : Option Number → Type 0
 IsRange None = Unit {0}

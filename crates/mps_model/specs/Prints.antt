@@ -84,7 +84,8 @@ cost_line objective col = if omits_cost col then [] else pair_line col.name obje
 -- the entries of a column of this name, in order
 abbrev pub entry_lines : List MpsRow → List ℕ → List MpsEntry → List ℕ
 entry_lines rows name [] = []
-entry_lines rows name (entry ∷ entries) = pair_line name (row_name rows entry.row) entry.value ++ entry_lines rows name entries
+entry_lines rows name (entry ∷ entries) =
+    pair_line name (row_name rows entry.row) entry.value ++ entry_lines rows name entries
 
 -- the lines of a column: its cost, then its entries
 abbrev pub column_lines : List ℕ → List MpsRow → MpsCol → List ℕ
@@ -94,7 +95,8 @@ column_lines objective rows col = cost_line objective col ++ entry_lines rows co
 abbrev pub columns_lines : List ℕ → List MpsRow → Bool → List MpsCol → List ℕ
 columns_lines objective rows integer [] = marker_line integer false
 columns_lines objective rows integer (col ∷ cols) =
-    marker_line integer col.integer ++ column_lines objective rows col ++ columns_lines objective rows col.integer cols
+    marker_line integer col.integer ++ column_lines objective rows col ++ columns_lines objective
+    rows col.integer cols
 
 -- Sections that are left out where they are empty.
 
@@ -136,7 +138,8 @@ high_line name (At value) = data_line (codes "UP" ∷ codes "BND" ∷ name ∷ n
 -- the bounds of columns: the low of each, then its high
 abbrev pub bound_lines : List MpsCol → List ℕ
 bound_lines [] = []
-bound_lines (col ∷ cols) = low_line col.name col.low ++ high_line col.name col.high ++ bound_lines cols
+bound_lines (col ∷ cols) = low_line col.name col.low ++ high_line col.name col.high ++ bound_lines
+    cols
 
 -- the canonical text of a model
 abbrev pub printed : MpsModel → List ℕ

@@ -9,7 +9,8 @@ use std::alloc::Global;
 
 /// Appends the line of a side that is free.
 fn append_free(lines: &mut Text, kind: &[u8], name: &Name) -> Result<(), OutOfMemory>
-    ensures { OnOk result (lines.new ≡ lines.old ++ data_line (kind.now ∷ codes "BND" ∷ name.now ∷ [])) }
+    ensures { OnOk result (lines.new ≡ lines.old ++ data_line
+        (kind.now ∷ codes "BND" ∷ name.now ∷ [])) }
 {
     append_field(lines, kind)?;
     append_field(lines, b"BND")?;
@@ -24,7 +25,8 @@ fn append_bound(
     name: &Name,
     value: Decimal,
 ) -> Result<(), OutOfMemory>
-    ensures { OnOk result (lines.new ≡ lines.old ++ data_line (kind.now ∷ codes "BND" ∷ name.now ∷ number_text value ∷ [])) }
+    ensures { OnOk result (lines.new ≡ lines.old ++ data_line
+        (kind.now ∷ codes "BND" ∷ name.now ∷ number_text value ∷ [])) }
 {
     append_field(lines, kind)?;
     append_field(lines, b"BND")?;

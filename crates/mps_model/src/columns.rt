@@ -52,7 +52,8 @@ fn append_entries(text: &mut Text, rows: &[MpsRow], col: &MpsCol) -> Result<(), 
 /// Appends the columns in order, with markers around each run of integer columns.
 pub fn append_columns(text: &mut Text, mps: &MpsModel) -> Result<(), OutOfMemory>
     requires { IsMpsModel mps.now }
-    ensures { OnOk result (text.new ≡ text.old ++ columns_lines mps.now.objective mps.now.rows false mps.now.cols) }
+    ensures { OnOk result (text.new ≡ text.old ++ columns_lines mps.now.objective mps.now.rows false
+        mps.now.cols) }
 {
     let mut integer = false;
     for col in mps.cols.as_slice() {

@@ -7,7 +7,8 @@ use ip_core::{OutOfMemory, Text};
 
 /// Appends the model's name, unless it is empty, and the sense, where it is to maximise.
 pub fn append_header(text: &mut Text, mps: &MpsModel) -> Result<(), OutOfMemory>
-    ensures { OnOk result (text.new ≡ text.old ++ name_line mps.now.name ++ sense_lines mps.now.maximise) }
+    ensures { OnOk result (text.new ≡ text.old ++ name_line mps.now.name ++ sense_lines
+        mps.now.maximise) }
 {
     let name = mps.name.text();
     if !name.is_empty() {

@@ -16,7 +16,8 @@ pub fn append_row(text: &mut Text, kind: &[u8], name: &Name) -> Result<(), OutOf
 
 /// Appends the line of a row of the model.
 fn append_kept_row(text: &mut Text, row: &MpsRow) -> Result<(), OutOfMemory>
-    ensures { OnOk result (text.new ≡ text.old ++ data_line (kind_word row.now.kind ∷ row.now.name ∷ [])) }
+    ensures { OnOk result (text.new ≡ text.old ++ data_line
+        (kind_word row.now.kind ∷ row.now.name ∷ [])) }
 {
     match row.kind {
         RowKind::Less => append_row(text, b"L", &row.name),

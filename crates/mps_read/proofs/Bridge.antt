@@ -114,7 +114,7 @@ value_same before m l Range q known = ap (has_value Range) (state_is before m l 
 
 value_kind : (before : List Form) (m : List Mark) (l : List ℕ) (kind : ValueKind) (set : List ℕ) (first : Pair) (second : Option Pair) (u : Bool) (r : Option MpsKind)
     → (if u && not (all_pairs is_pair_numeral first second) then Some Numeral else if u && not (all_pairs (is_known_pair (row_names_of before)) first second) then Some UnknownName else if u && repeats_in (draft_of before m l) (λ row. has_value kind (state_at (draft_of before m l).row_states row)) first second then Some RepeatedEntry else r)
-      ≡ (if u && not (all_pairs is_pair_numeral first second) then Some Numeral else if u && not (all_pairs (is_known_pair (row_names_of before)) first second) then Some UnknownName else if u && repeats before (pairs_in kind before) first second then Some RepeatedEntry else r)
+    ≡ (if u && not (all_pairs is_pair_numeral first second) then Some Numeral else if u && not (all_pairs (is_known_pair (row_names_of before)) first second) then Some UnknownName else if u && repeats before (pairs_in kind before) first second then Some RepeatedEntry else r)
 value_kind before m l kind set first second u r =
     third_same _ _ _ _ Numeral UnknownName RepeatedEntry r
     (used_same u (not (all_pairs (is_known_pair (row_names_of before)) first second)) _ _

@@ -57,9 +57,10 @@ Follows before m l f =
 follow : (before : List Form) (m n : List Mark) (l k : List ℕ) (f : Form) → after (draft_of before m l) f ≡ draft_of (f ∷ before) n k → IsLawful (f ∷ before) n → Follows before m l f
 follow before m n l k f same law =
     let marks : (after (draft_of before m l) f).marks ≡ n = ap (λ (d : Draft). d.marks) same in
-    let latest : (after (draft_of before m l) f).latest ≡ k = ap (λ (d : Draft). d.latest) same in
-    (same ∙ ap (λ x. draft_of (f ∷ before) x k) (sym marks) ∙ ap (λ x. draft_of (f ∷ before) (after (draft_of before m l) f).marks x) (sym latest),
-    subst (λ (x : List Mark). IsLawful (f ∷ before) x) (sym marks) law)
+    let latest : (after (draft_of before m l) f).latest ≡ k = ap (λ (d : Draft). d.latest) same in (
+      same ∙ ap (λ x. draft_of (f ∷ before) x k) (sym marks) ∙ ap (λ x. draft_of (f ∷ before) (after (draft_of before m l) f).marks x) (sym latest),
+      subst (λ (x : List Mark). IsLawful (f ∷ before) x) (sym marks) law,
+    )
 
 -- rows
 
@@ -80,19 +81,20 @@ free_follows before m l name law new =
     let sides : List Pair = pairs_in Side before in
     let ranges : List Pair = pairs_in Range before in
     let kept : List (List ℕ) = kept_names_of before in
-    let e : Draft = after (draft_of before m l) (FreeRow name) in
-    (to_draft (draft_of (FreeRow name ∷ before) e.marks e.latest) e.row_states e.kept e.rows e.cols e.constant e.rhs e.ranges e.bounds
-    (ap (λ b. if b then states_said o kept sides ranges names else states_said o kept sides ranges names ++ fresh (free_place o) ∷ []) new
-    ∙ free_states o kept sides ranges names name new (new_objective o names name law.objective_known new) (new_kept names kept name law.kept_known new) (not_named names name sides law.sides_known new) (not_named names name ranges law.ranges_known new)
-    ∙ ap (λ b. states_said (first_given o name) kept sides ranges (if b then names else names ++ name ∷ [])) (sym new))
-    refl refl
-    (map_all _ _ (column_names_of before)
-    (λ x. costs_same x o (first_given o name) kept (begins_integer x before) (pairs_of x before) (bounds_of x before) (free_number o names name (pairs_of x before) (law.pairs_known x) new)))
-    (ap negation (free_number o names name sides law.sides_known new))
-    refl refl refl,
-    subst (λ (ns : List (List ℕ)). AreLawful (first_given o name) ns (kept_rows_of before) sides ranges (column_names_of before) (λ c. pairs_of c before) (λ c. bounds_of c before) m)
-    (ap (λ b. if b then names else names ++ name ∷ []) (sym new))
-    (free_lawful o names (kept_rows_of before) sides ranges (column_names_of before) (λ c. pairs_of c before) (λ c. bounds_of c before) m law name new))
+    let e : Draft = after (draft_of before m l) (FreeRow name) in (
+      to_draft (draft_of (FreeRow name ∷ before) e.marks e.latest) e.row_states e.kept e.rows e.cols e.constant e.rhs e.ranges e.bounds
+          (ap (λ b. if b then states_said o kept sides ranges names else states_said o kept sides ranges names ++ fresh (free_place o) ∷ []) new
+          ∙ free_states o kept sides ranges names name new (new_objective o names name law.objective_known new) (new_kept names kept name law.kept_known new) (not_named names name sides law.sides_known new) (not_named names name ranges law.ranges_known new)
+          ∙ ap (λ b. states_said (first_given o name) kept sides ranges (if b then names else names ++ name ∷ [])) (sym new))
+          refl refl
+          (map_all _ _ (column_names_of before)
+          (λ x. costs_same x o (first_given o name) kept (begins_integer x before) (pairs_of x before) (bounds_of x before) (free_number o names name (pairs_of x before) (law.pairs_known x) new)))
+          (ap negation (free_number o names name sides law.sides_known new))
+          refl refl refl,
+      subst (λ (ns : List (List ℕ)). AreLawful (first_given o name) ns (kept_rows_of before) sides ranges (column_names_of before) (λ c. pairs_of c before) (λ c. bounds_of c before) m)
+          (ap (λ b. if b then names else names ++ name ∷ []) (sym new))
+          (free_lawful o names (kept_rows_of before) sides ranges (column_names_of before) (λ c. pairs_of c before) (λ c. bounds_of c before) m law name new),
+    )
 
 entries_name : (names kept : List (List ℕ)) (name : List ℕ) (pairs : List Pair) → AreKnown names pairs → is_among name names ≡ false → entries_of kept pairs ≡ entries_of (kept ++ name ∷ []) pairs
 entries_name names kept name [] known new = refl
@@ -115,22 +117,23 @@ row_follows before m l kind name law new =
     let line : RowLine = record { kind = kind; name = name } in
     let e : Draft = after (draft_of before m l) (KeptRow kind name) in
     let more : kept ++ name ∷ [] ≡ names_in (rows ++ line ∷ []) = sym (map-append (λ (x : RowLine). x.name) rows (line ∷ [])) in
-    let count : length rows ≡ length kept = sym (length-map rows (λ (x : RowLine). x.name)) in
-    (to_draft (draft_of (KeptRow kind name ∷ before) e.marks e.latest) e.row_states e.kept e.rows e.cols e.constant e.rhs e.ranges e.bounds
-    (ap (λ b. if b then states_said o kept sides ranges names else states_said o kept sides ranges names ++ fresh (Kept (length rows)) ∷ []) new
-    ∙ kept_states o kept sides ranges names name (length rows) new (new_objective o names name law.objective_known new) (new_kept names kept name law.kept_known new) (not_named names name sides law.sides_known new) (not_named names name ranges law.ranges_known new) count
-    ∙ ap (λ ks. states_said o ks sides ranges (names ++ name ∷ [])) more
-    ∙ ap (λ b. states_said o (names_in (rows ++ line ∷ [])) sides ranges (if b then names else names ++ name ∷ [])) (sym new))
-    (ap (λ b. if b then length rows else length rows + 1) new ∙ sym (longer rows line))
-    (ap (λ b. if b then map (row_of sides ranges) rows else map (row_of sides ranges) rows ++ fresh_row kind name ∷ []) new
-    ∙ kept_rows sides ranges rows kind name (not_named names name sides law.sides_known new) (not_named names name ranges law.ranges_known new))
-    (map_all _ _ (column_names_of before)
-    (λ x. entries_same x o kept (names_in (rows ++ line ∷ [])) (begins_integer x before) (pairs_of x before) (bounds_of x before)
-    (entries_name names kept name (pairs_of x before) (law.pairs_known x) new ∙ ap (λ ks. entries_of ks (pairs_of x before)) more)))
-    refl refl refl refl,
-    subst (λ (ns : List (List ℕ)). AreLawful o ns (rows ++ line ∷ []) sides ranges (column_names_of before) (λ c. pairs_of c before) (λ c. bounds_of c before) m)
-    (ap (λ b. if b then names else names ++ name ∷ []) (sym new))
-    (row_lawful o names rows sides ranges (column_names_of before) (λ c. pairs_of c before) (λ c. bounds_of c before) m law kind name new))
+    let count : length rows ≡ length kept = sym (length-map rows (λ (x : RowLine). x.name)) in (
+      to_draft (draft_of (KeptRow kind name ∷ before) e.marks e.latest) e.row_states e.kept e.rows e.cols e.constant e.rhs e.ranges e.bounds
+          (ap (λ b. if b then states_said o kept sides ranges names else states_said o kept sides ranges names ++ fresh (Kept (length rows)) ∷ []) new
+          ∙ kept_states o kept sides ranges names name (length rows) new (new_objective o names name law.objective_known new) (new_kept names kept name law.kept_known new) (not_named names name sides law.sides_known new) (not_named names name ranges law.ranges_known new) count
+          ∙ ap (λ ks. states_said o ks sides ranges (names ++ name ∷ [])) more
+          ∙ ap (λ b. states_said o (names_in (rows ++ line ∷ [])) sides ranges (if b then names else names ++ name ∷ [])) (sym new))
+          (ap (λ b. if b then length rows else length rows + 1) new ∙ sym (longer rows line))
+          (ap (λ b. if b then map (row_of sides ranges) rows else map (row_of sides ranges) rows ++ fresh_row kind name ∷ []) new
+          ∙ kept_rows sides ranges rows kind name (not_named names name sides law.sides_known new) (not_named names name ranges law.ranges_known new))
+          (map_all _ _ (column_names_of before)
+          (λ x. entries_same x o kept (names_in (rows ++ line ∷ [])) (begins_integer x before) (pairs_of x before) (bounds_of x before)
+          (entries_name names kept name (pairs_of x before) (law.pairs_known x) new ∙ ap (λ ks. entries_of ks (pairs_of x before)) more)))
+          refl refl refl refl,
+      subst (λ (ns : List (List ℕ)). AreLawful o ns (rows ++ line ∷ []) sides ranges (column_names_of before) (λ c. pairs_of c before) (λ c. bounds_of c before) m)
+          (ap (λ b. if b then names else names ++ name ∷ []) (sym new))
+          (row_lawful o names rows sides ranges (column_names_of before) (λ c. pairs_of c before) (λ c. bounds_of c before) m law kind name new),
+    )
 
 -- entries
 

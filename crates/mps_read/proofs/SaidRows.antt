@@ -168,7 +168,7 @@ module _ (sides ranges moresides moreranges : List Pair) (q : Pair) (rows : List
   changed : IsSingle (bytes_eq q.row) (map (λ line. line.name) rows) → is_among q.row (map (λ line. line.name) rows) ≡ true
       → ((x : RowLine) → bytes_eq q.row x.name ≡ true → change (row_of sides ranges x) ≡ row_of moresides moreranges x)
       → slice_set (map (row_of sides ranges) rows) (place_among q.row (map (λ line. line.name) rows)) (change (slice_index_or (map (row_of sides ranges) rows) (place_among q.row (map (λ line. line.name) rows)) (fresh_row Less [])))
-        ≡ map (row_of moresides moreranges) rows
+      ≡ map (row_of moresides moreranges) rows
   changed single known here =
       let place : place_among q.row (map (λ line. line.name) rows) ≡ position_or_len (λ (x : RowLine). bytes_eq q.row x.name) rows = position_images (λ (line : RowLine). line.name) (bytes_eq q.row) rows in
       rw place (map_change (row_of sides ranges) (row_of moresides moreranges) change (fresh_row Less []) (λ x. bytes_eq q.row x.name) rows

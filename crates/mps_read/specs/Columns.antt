@@ -27,7 +27,8 @@ column_names_of (_ ∷ before) = column_names_of before
 abbrev pub pairs_of : List ℕ → List Form → List Pair
 pairs_of column [] = []
 pairs_of column (Entries name first second ∷ before) =
-    if bytes_eq column name then pairs_of column before ++ pairs_on first second else pairs_of column before
+    if bytes_eq column name then pairs_of column before ++ pairs_on first second
+    else pairs_of column before
 pairs_of column (_ ∷ before) = pairs_of column before
 
 -- a column's entries: the pairs of rows of the model, in order; zeros are dropped
@@ -35,7 +36,8 @@ abbrev pub entries_of : List (List ℕ) → List Pair → List MpsEntry
 entries_of rows [] = []
 entries_of rows (pair ∷ pairs) =
     if is_among pair.row rows && not (is_zero (decimal_of pair.numeral))
-    then record { row = place_among pair.row rows; value = decimal_of pair.numeral } ∷ entries_of rows pairs
+    then record { row = place_among pair.row rows; value = decimal_of pair.numeral } ∷ entries_of
+    rows pairs
     else entries_of rows pairs
 
 -- Markers.
@@ -131,7 +133,8 @@ is_made_integer [] = false
 is_made_integer (bound ∷ older) = makes_integer bound.kind || is_made_integer older
 
 -- a column of this name
-abbrev pub column_of : Option (List ℕ) → List (List ℕ) → Bool → List Pair → List Bound → List ℕ → MpsCol
+abbrev pub column_of : Option (List ℕ) → List (List ℕ) → Bool → List Pair → List Bound → List ℕ →
+    MpsCol
 column_of objective rows integer pairs bounds name = record {
   name = name;
   integer = integer || is_made_integer bounds;
@@ -145,5 +148,6 @@ column_of objective rows integer pairs bounds name = record {
 abbrev pub cols_of : List Form → List MpsCol
 cols_of before =
     map
-    (λ name. column_of (objective_of before) (kept_names_of before) (begins_integer name before) (pairs_of name before) (bounds_of name before) name)
+    (λ name. column_of (objective_of before) (kept_names_of before) (begins_integer name before)
+    (pairs_of name before) (bounds_of name before) name)
     (column_names_of before)

@@ -15,7 +15,15 @@ use Rattle.mps_read.specs.declared.draft.Mark.{Mark}
 -- a column without entries and bounds
 abbrev pub fresh_column : Bool → List ℕ → MpsCol
 fresh_column is_integer name =
-    record { name = name; integer = is_integer; cost = zero_decimal; entries = []; low = Unset; high = Unset }
+    record {
+      name = name;
+      integer = is_integer;
+      cost = zero_decimal;
+      entries = [];
+      low =
+          Unset;
+      high = Unset;
+    }
 
 -- the column of a number
 abbrev pub column_at : List MpsCol → ℕ → MpsCol
@@ -23,11 +31,15 @@ column_at cols col = slice_index_or cols col (fresh_column false [])
 
 -- a column with one more entry
 abbrev pub with_entry : ℕ → Number → MpsCol → MpsCol
-with_entry row value c = record c { entries = c.entries ++ record { row = row; value = value } ∷ [] }
+with_entry row value c = record c {
+  entries =
+      c.entries ++ record { row = row; value = value } ∷ [];
+}
 
 -- the columns with a coefficient of one of them in what a row's name stands for; zeros are dropped
 abbrev pub with_coefficient : RowPlace → Number → ℕ → List MpsCol → List MpsCol
-with_coefficient Objective value col cols = slice_set cols col (record (column_at cols col) { cost = value })
+with_coefficient Objective value col cols =
+    slice_set cols col (record (column_at cols col) { cost = value })
 with_coefficient Dropped value col cols = cols
 with_coefficient (Kept row) value col cols =
     if is_zero value then cols else slice_set cols col (with_entry row value (column_at cols col))
@@ -42,7 +54,8 @@ bounded_column IntegerUpper value c = record c { integer = true; high = high_lim
 bounded_column NoSides value c = record c { low = Free; high = Free }
 bounded_column NoLower value c = record c { low = Free }
 bounded_column NoUpper value c = record c { high = Free }
-bounded_column Binary value c = record c { integer = true; low = At zero_decimal; high = At one_decimal }
+bounded_column Binary value c = record c
+    { integer = true; low = At zero_decimal; high = At one_decimal }
 
 -- the columns with one of them bounded
 abbrev pub with_bound : BoundKind → Number → ℕ → List MpsCol → List MpsCol

@@ -77,7 +77,8 @@ draft_kind d form =
     else if is_untyped_row form then Some RowType
     else if is_untyped_bound form then Some BoundType
     else if is_repeated_name d.row_names form then Some RepeatedName
-    else if is_used_in d form && has_unknown_name d.row_names d.column_names form then Some UnknownName
+    else if is_used_in d form && has_unknown_name d.row_names d.column_names form
+    then Some UnknownName
     else if is_used_in d form && is_repeated_in d form then Some RepeatedEntry
     else if is_split_column d.column_names form then Some SplitColumn
     else if is_bad_marker form then Some Marker

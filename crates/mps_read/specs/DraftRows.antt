@@ -42,7 +42,8 @@ marked_state kind s = if is_tested s.place then with_value_mark kind s else s
 
 -- the states with a value in the row of a number
 abbrev pub with_marked : ValueKind → ℕ → List RowState → List RowState
-with_marked kind number states = slice_set states number (marked_state kind (state_at states number))
+with_marked kind number states = slice_set states number
+    (marked_state kind (state_at states number))
 
 -- a row with a right-hand side or a range
 abbrev pub valued_row : ValueKind → Number → MpsRow → MpsRow

@@ -96,7 +96,8 @@ kept_row (Some kind) name = KeptRow kind name
 
 -- a row: its type and its name
 abbrev pub row_form : List ℕ → List ℕ → Form
-row_form kind name = if bytes_eq kind (codes "N") then FreeRow name else kept_row (row_kind_named kind) name
+row_form kind name = if bytes_eq kind (codes "N") then FreeRow name
+    else kept_row (row_kind_named kind) name
 
 -- a line of rows: a type and a name
 abbrev pub rows_form : Words → Form
@@ -117,20 +118,25 @@ marker_form word =
 -- a marker of three fields, or a column with one or two pairs
 abbrev pub columns_form : Words → Form
 columns_form (Three column row numeral) =
-    if bytes_eq row marker_word then marker_form numeral else Entries column (record { row = row; numeral = numeral }) None
+    if bytes_eq row marker_word then marker_form numeral
+    else Entries column (record { row = row; numeral = numeral }) None
 columns_form (Five column row numeral row2 numeral2) =
     if bytes_eq row marker_word then Miscounted
-    else Entries column (record { row = row; numeral = numeral }) (Some (record { row = row2; numeral = numeral2 }))
+    else Entries column (record { row = row; numeral = numeral })
+    (Some (record { row = row2; numeral = numeral2 }))
 columns_form _ = Miscounted
 
 -- one or two pairs, after the name of a set or without one
 abbrev pub values_form : ValueKind → Words → Form
 values_form kind (Two row numeral) = Values kind [] (record { row = row; numeral = numeral }) None
-values_form kind (Three set row numeral) = Values kind set (record { row = row; numeral = numeral }) None
+values_form kind (Three set row numeral) =
+    Values kind set (record { row = row; numeral = numeral }) None
 values_form kind (Four row numeral row2 numeral2) =
-    Values kind [] (record { row = row; numeral = numeral }) (Some (record { row = row2; numeral = numeral2 }))
+    Values kind [] (record { row = row; numeral = numeral })
+    (Some (record { row = row2; numeral = numeral2 }))
 values_form kind (Five set row numeral row2 numeral2) =
-    Values kind set (record { row = row; numeral = numeral }) (Some (record { row = row2; numeral = numeral2 }))
+    Values kind set (record { row = row; numeral = numeral })
+    (Some (record { row = row2; numeral = numeral2 }))
 values_form kind _ = Miscounted
 
 -- the bound of a type
@@ -175,7 +181,8 @@ plain_bound kind _ = Miscounted
 -- a bound, if its type is known
 abbrev pub typed_bound : Option BoundKind → Words → Form
 typed_bound None words = UntypedBound
-typed_bound (Some kind) words = if has_numeral kind then numeral_bound kind words else plain_bound kind words
+typed_bound (Some kind) words = if has_numeral kind then numeral_bound kind words
+    else plain_bound kind words
 
 -- a line of bounds
 abbrev pub bounds_form : Words → Form

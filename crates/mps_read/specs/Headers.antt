@@ -26,7 +26,8 @@ is_section _ _ = false
 -- whether a section began
 abbrev pub has_section : Section → List Form → Bool
 has_section section [] = false
-has_section section (Head other word ∷ before) = is_section section other || has_section section before
+has_section section (Head other word ∷ before) = is_section section other
+    || has_section section before
 has_section section (_ ∷ before) = has_section section before
 
 -- whether the data line of the sense came

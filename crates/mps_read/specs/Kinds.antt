@@ -106,8 +106,10 @@ is_known_pair rows pair = is_among pair.row rows
 
 -- 9: a row or a column that isn't known
 abbrev pub has_unknown_name : List (List ℕ) → List (List ℕ) → Form → Bool
-has_unknown_name rows columns (Entries column first second) = not (all_pairs (is_known_pair rows) first second)
-has_unknown_name rows columns (Values kind set first second) = not (all_pairs (is_known_pair rows) first second)
+has_unknown_name rows columns (Entries column first second) =
+    not (all_pairs (is_known_pair rows) first second)
+has_unknown_name rows columns (Values kind set first second) =
+    not (all_pairs (is_known_pair rows) first second)
 has_unknown_name rows columns (BoundLine kind set column numeral) = not (is_among column columns)
 has_unknown_name rows columns _ = false
 
@@ -124,8 +126,10 @@ repeats before earlier first (Some second) =
 
 -- 10: a second entry of a row that isn't dropped, in one column or in the used set
 abbrev pub is_repeated_entry : List Form → Form → Bool
-is_repeated_entry before (Entries column first second) = repeats before (pairs_of column before) first second
-is_repeated_entry before (Values kind set first second) = repeats before (pairs_in kind before) first second
+is_repeated_entry before (Entries column first second) =
+    repeats before (pairs_of column before) first second
+is_repeated_entry before (Values kind set first second) =
+    repeats before (pairs_in kind before) first second
 is_repeated_entry before _ = false
 
 -- 11: a column that isn't new and isn't the last one
@@ -190,7 +194,8 @@ kind_of before form =
     else if is_untyped_row form then Some RowType
     else if is_untyped_bound form then Some BoundType
     else if is_repeated_name (row_names_of before) form then Some RepeatedName
-    else if is_used_line before form && has_unknown_name (row_names_of before) (column_names_of before) form
+    else if is_used_line before form && has_unknown_name (row_names_of before)
+    (column_names_of before) form
     then Some UnknownName
     else if is_used_line before form && is_repeated_entry before form then Some RepeatedEntry
     else if is_split_column (column_names_of before) form then Some SplitColumn

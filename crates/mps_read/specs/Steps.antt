@@ -53,7 +53,8 @@ abbrev pub after_free : Draft → List ℕ → Draft
 after_free d name =
     record d {
       row_names = with_name name d.row_names;
-      row_states = extended (is_among name d.row_names) (fresh (free_place d.objective)) d.row_states;
+      row_states = extended (is_among name d.row_names)
+          (fresh (free_place d.objective)) d.row_states;
       objective = first_given d.objective name;
       latest = extended (is_among name d.row_names) 0 d.latest;
     }
@@ -89,7 +90,8 @@ after_entry row place col value d =
 -- the same for a pair of a line
 abbrev pub after_entry_pair : Draft → ℕ → Pair → Draft → Draft
 after_entry_pair from col pair d =
-    after_entry (place_among pair.row from.row_names) (place_of_pair from.row_names from.row_states pair) col (decimal_of pair.numeral) d
+    after_entry (place_among pair.row from.row_names)
+    (place_of_pair from.row_names from.row_states pair) col (decimal_of pair.numeral) d
 
 -- with a right-hand side or a range of the row of a name's number
 abbrev pub after_value : ValueKind → ℕ → RowPlace → Number → Draft → Draft
@@ -103,7 +105,8 @@ after_value kind row place value d =
 -- the same for a pair of a line
 abbrev pub after_value_pair : Draft → ValueKind → Pair → Draft → Draft
 after_value_pair from kind pair d =
-    after_value kind (place_among pair.row from.row_names) (place_of_pair from.row_names from.row_states pair) (decimal_of pair.numeral) d
+    after_value kind (place_among pair.row from.row_names)
+    (place_of_pair from.row_names from.row_states pair) (decimal_of pair.numeral) d
 
 -- with the set of a section named, where it has none
 abbrev pub with_values_set : ValueKind → List ℕ → Draft → Draft
@@ -133,7 +136,8 @@ after d UntypedRow = d
 after d (Marker is_integer) = record d { is_integer = is_integer }
 after d UnknownMarker = d
 after d (Entries column first second) =
-    after_pairs (after_entry_pair d (place_among column d.column_names)) first second (after_column d column)
+    after_pairs (after_entry_pair d (place_among column d.column_names)) first second
+    (after_column d column)
 after d (Values kind set first second) =
     if is_used (values_use kind d).set set
     then with_values_set kind set (after_pairs (after_value_pair d kind) first second d)
@@ -158,4 +162,5 @@ abbrev pub run : Draft → ℕ → List (List ℕ) → Reading
 run d number [] = RefusedAt number NoEndata
 run d number (line ∷ rest) =
     let form = form_of d.section d.has_sense_line line
-    in outcome (draft_kind d form) (is_end form) number (Read (draft_model d)) (run (after d form) (number + 1) rest)
+    in outcome (draft_kind d form) (is_end form) number (Read (draft_model d))
+    (run (after d form) (number + 1) rest)

@@ -80,7 +80,9 @@ fn set_bound(cols: &mut List<MpsCol>, kind: BoundKind, col: usize, value: Decima
 /// The number of a bound, or 0 for a type that has none; None where a numeral is asked for and the bytes aren't one.
 fn bound_value(kind: BoundKind, numeral: &[u8]) -> Option<Decimal>
     requires { length numeral.now ≤ 2 ^ 30 }
-    ensures { MatchOption result ((is_with_numeral kind && not (is_numeral numeral.now)) ≡ true) (λ d. ((is_with_numeral kind && not (is_numeral numeral.now)) ≡ false) × (d ≡ decimal_of numeral.now)) }
+    ensures { MatchOption result ((is_with_numeral kind && not (is_numeral numeral.now)) ≡ true)
+        (λ d. ((is_with_numeral kind && not (is_numeral numeral.now)) ≡ false)
+        × (d ≡ decimal_of numeral.now)) }
 {
     match Decimal::read(numeral) {
         Ok(value) => Some(value),
@@ -106,7 +108,8 @@ fn take_used(
     requires set { IsField set.now }
     requires numeral { length numeral.now ≤ 2 ^ 30 }
     requires used { is_used_set draft.old.bounds.set set.now ≡ true }
-    ensures { IfOk result (λ j. Judges j draft.old (BoundLine kind set.now column.now numeral.now) draft.new) }
+    ensures { IfOk result (λ j. Judges j draft.old
+        (BoundLine kind set.now column.now numeral.now) draft.new) }
 {
     let Some(value) = bound_value(kind, numeral) else {
         return Ok(Judgement::Refused(MpsKind::Numeral));
@@ -134,7 +137,8 @@ fn take_bound(
     requires draft { IsDraft draft.old }
     requires set { IsField set.now }
     requires numeral { length numeral.now ≤ 2 ^ 30 }
-    ensures { IfOk result (λ j. Judges j draft.old (BoundLine kind set.now column.now numeral.now) draft.new) }
+    ensures { IfOk result (λ j. Judges j draft.old
+        (BoundLine kind set.now column.now numeral.now) draft.new) }
 {
     if is_used(&draft.bounds, set) {
         return take_used(alloc, draft, kind, set, column, numeral);

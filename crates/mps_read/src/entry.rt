@@ -99,7 +99,8 @@ fn enter(draft: &mut Draft, row: FoundRow, col: usize, value: Decimal) -> Result
     requires known { row.number < length draft.old.latest }
     requires column { col < length draft.old.cols }
     requires few { col < 2 ^ 31 }
-    ensures after_entry { OnOk result (draft.new ≡ after_entry row.number row.state.place col value draft.old) }
+    ensures after_entry { OnOk result (draft.new ≡
+        after_entry row.number row.state.place col value draft.old) }
     ensures columns { OnOk result (length draft.new.cols ≡ length draft.old.cols) }
 {
     match row.state.place {
@@ -132,7 +133,8 @@ fn take_entry(
     requires few { length draft.old.column_names < 2 ^ 31 }
     requires column { IsField column.now }
     requires first { IsPair first }
-    ensures { IfOk result (λ j. Judges j draft.old (Entries column.now (seen_pair first.entry) None) draft.new) }
+    ensures { IfOk result (λ j. Judges j draft.old
+        (Entries column.now (seen_pair first.entry) None) draft.new) }
 {
     let Some(value) = read_numeral(first.numeral) else {
         return Ok(Judgement::Refused(MpsKind::Numeral));
@@ -168,7 +170,8 @@ fn take_entries(
     requires column { IsField column.now }
     requires first { IsPair first }
     requires second { IsPair second }
-    ensures { IfOk result (λ j. Judges j draft.old (Entries column.now (seen_pair first.entry) (Some (seen_pair second.entry))) draft.new) }
+    ensures { IfOk result (λ j. Judges j draft.old
+        (Entries column.now (seen_pair first.entry) (Some (seen_pair second.entry))) draft.new) }
 {
     let (Some(value), Some(value2)) = (read_numeral(first.numeral), read_numeral(second.numeral))
     else {

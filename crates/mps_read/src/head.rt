@@ -63,7 +63,8 @@ fn is_objsense(section: Option<Section>) -> bool
 
 /// Whether the section's word is no sense, or the sense is missing where the next section begins.
 fn has_bad_sense(draft: &Draft, section: Section, word: &[u8]) -> bool
-    ensures { result ≡ has_bad_sense_of draft.now.section draft.now.maximise (Head section word.now) }
+    ensures { result ≡ has_bad_sense_of draft.now.section draft.now.maximise
+        (Head section word.now) }
 {
     match section {
         Section::Objsense => !word.is_empty() && sense_named(word).is_none(),

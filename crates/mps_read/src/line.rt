@@ -25,7 +25,8 @@ pub struct FieldPair<'a> {
 
 /// The bytes before the first line feed and those after it, or None where there is none.
 fn cut_line(bytes: &[u8]) -> Option<(&[u8], &[u8])>
-    ensures { MatchOption result (list_any (λ b. b == 10) bytes.now ≡ false) (λ p. (bytes.now ≡ p.0.now ++ 10 ∷ p.1.now) × (list_any (λ b. b == 10) p.0.now ≡ false)) }
+    ensures { MatchOption result (list_any (λ b. b == 10) bytes.now ≡ false)
+        (λ p. (bytes.now ≡ p.0.now ++ 10 ∷ p.1.now) × (list_any (λ b. b == 10) p.0.now ≡ false)) }
 {
     for (place, byte) in bytes.iter().enumerate() {
         if *byte == b'\n' {
@@ -37,7 +38,9 @@ fn cut_line(bytes: &[u8]) -> Option<(&[u8], &[u8])>
 
 /// The first line and what follows it, or None where no byte is left.
 pub fn next_line(bytes: &[u8]) -> Option<(&[u8], &[u8])>
-    ensures { MatchOption result (lines_of bytes.now ≡ []) (λ p. (lines_of bytes.now ≡ p.0.now ∷ lines_of p.1.now) × (length p.1.now < length bytes.now) × (length p.0.now ≤ length bytes.now)) }
+    ensures { MatchOption result (lines_of bytes.now ≡ [])
+        (λ p. (lines_of bytes.now ≡ p.0.now ∷ lines_of p.1.now)
+        × (length p.1.now < length bytes.now) × (length p.0.now ≤ length bytes.now)) }
 {
     if bytes.is_empty() {
         return None;
@@ -57,7 +60,8 @@ fn is_separator(byte: u8) -> bool
 
 /// The bytes before the first separator and those after it, or None where there is none.
 fn cut_piece(line: &[u8]) -> Option<(&[u8], &[u8])>
-    ensures { MatchOption result (pieces line.now ≡ line.now ∷ []) (λ p. (pieces line.now ≡ p.0.now ∷ pieces p.1.now) × (length p.1.now < length line.now)) }
+    ensures { MatchOption result (pieces line.now ≡ line.now ∷ [])
+        (λ p. (pieces line.now ≡ p.0.now ∷ pieces p.1.now) × (length p.1.now < length line.now)) }
 {
     for (place, byte) in line.iter().enumerate() {
         if is_separator(*byte) {
@@ -69,7 +73,8 @@ fn cut_piece(line: &[u8]) -> Option<(&[u8], &[u8])>
 
 /// The first field of a line, and what stands after it.
 fn next_field(line: &[u8]) -> Option<(&[u8], &[u8])>
-    ensures { MatchOption result (fields line.now ≡ []) (λ p. fields line.now ≡ p.0.now ∷ fields p.1.now) }
+    ensures { MatchOption result (fields line.now ≡ [])
+        (λ p. fields line.now ≡ p.0.now ∷ fields p.1.now) }
 {
     let mut rest = line;
     while let Some((piece, after)) = cut_piece(rest) {

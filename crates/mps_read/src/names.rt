@@ -39,7 +39,9 @@ impl Names {
 
     /// The number of a name, or None where it isn't known.
     pub fn find(&self, name: &[u8]) -> Option<usize>
-        ensures { MatchOption result (is_among name.now self.now ≡ false) (λ k. (is_among name.now self.now ≡ true) × (k ≡ place_among name.now self.now) × (k < length self.now)) }
+        ensures { MatchOption result (is_among name.now self.now ≡ false)
+            (λ k. (is_among name.now self.now ≡ true) × (k ≡ place_among name.now self.now)
+            × (k < length self.now)) }
     {
         self.index.get_index_of(name)
     }

@@ -10,7 +10,8 @@ use ip_core::Decimal;
 /// The decimal of a numeral, or None where the bytes aren't one.
 pub fn read_numeral(bytes: &[u8]) -> Option<Decimal>
     requires { length bytes.now ≤ 2 ^ 30 }
-    ensures { MatchOption result (is_numeral bytes.now ≡ false) (λ d. (is_numeral bytes.now ≡ true) × (d ≡ decimal_of bytes.now)) }
+    ensures { MatchOption result (is_numeral bytes.now ≡ false)
+        (λ d. (is_numeral bytes.now ≡ true) × (d ≡ decimal_of bytes.now)) }
 {
     match Decimal::read(bytes) {
         Ok(value) => Some(value),

@@ -35,7 +35,8 @@ fn take_data(alloc: Global, draft: &mut Draft, fields: Fields<'_>) -> Result<Jud
     requires few_rows { draft.old.kept < 2 ^ 31 }
     requires few_columns { length draft.old.column_names < 2 ^ 31 }
     requires fields { AreFields (seen fields) }
-    ensures { IfOk result (λ j. Judges j draft.old (data_form draft.old.section draft.old.has_sense_line (seen fields.entry)) draft.new) }
+    ensures { IfOk result (λ j. Judges j draft.old
+        (data_form draft.old.section draft.old.has_sense_line (seen fields.entry)) draft.new) }
 {
     match draft.section {
         None | Some(Section::Name | Section::Endata) => {
@@ -61,7 +62,8 @@ fn take_line(alloc: Global, draft: &mut Draft, line: &[u8]) -> Result<Judgement,
     requires few_rows { draft.old.kept < 2 ^ 31 }
     requires few_columns { length draft.old.column_names < 2 ^ 31 }
     requires short { length line.now ≤ 2 ^ 30 }
-    ensures { IfOk result (λ j. Judges j draft.old (form_of draft.old.section draft.old.has_sense_line line.now) draft.new) }
+    ensures { IfOk result (λ j. Judges j draft.old
+        (form_of draft.old.section draft.old.has_sense_line line.now) draft.new) }
 {
     if is_comment(line) {
         return Ok(Judgement::Taken);

@@ -83,7 +83,8 @@ fn has_value(kind: ValueKind, state: RowState) -> bool
 /// Marks that a row has a value, unless it is dropped.
 fn mark_value(draft: &mut Draft, kind: ValueKind, row: usize)
     requires { row < length draft.old.row_states }
-    ensures { draft.new ≡ record draft.old { row_states = with_marked kind row draft.old.row_states } }
+    ensures { draft.new ≡ record draft.old
+        { row_states = with_marked kind row draft.old.row_states } }
 {
     let mut state = draft.row_states.as_slice()[row];
     if is_tested(state.place) {
@@ -98,7 +99,11 @@ fn mark_value(draft: &mut Draft, kind: ValueKind, row: usize)
 /// Sets a right-hand side or a range. The objective's right-hand side is the negated constant, and its range is dropped.
 fn set_value(draft: &mut Draft, kind: ValueKind, place: RowPlace, value: Decimal)
     requires { IsPlaced (length draft.old.rows) place }
-    ensures { draft.new ≡ record draft.old { rows = with_value kind place value draft.old.rows; constant = with_constant kind place value draft.old.constant } }
+    ensures { draft.new ≡ record draft.old {
+      rows = with_value kind place value draft.old.rows;
+      constant =
+          with_constant kind place value draft.old.constant;
+    } }
 {
     match place {
         RowPlace::Dropped => {}
@@ -138,7 +143,8 @@ fn take_value(
     requires set { IsField set.now }
     requires first { IsPair first }
     requires used { is_used_set (values_use kind draft.old).set set.now ≡ true }
-    ensures { IfOk result (λ j. Judges j draft.old (Values kind set.now (seen_pair first.entry) None) draft.new) }
+    ensures { IfOk result (λ j. Judges j draft.old
+        (Values kind set.now (seen_pair first.entry) None) draft.new) }
 {
     let Some(value) = read_numeral(first.numeral) else {
         return Ok(Judgement::Refused(MpsKind::Numeral));
@@ -171,7 +177,8 @@ fn take_two_values(
     requires first { IsPair first }
     requires second { IsPair second }
     requires used { is_used_set (values_use kind draft.old).set set.now ≡ true }
-    ensures { IfOk result (λ j. Judges j draft.old (Values kind set.now (seen_pair first.entry) (Some (seen_pair second.entry))) draft.new) }
+    ensures { IfOk result (λ j. Judges j draft.old
+        (Values kind set.now (seen_pair first.entry) (Some (seen_pair second.entry))) draft.new) }
 {
     let (Some(value), Some(value2)) = (read_numeral(first.numeral), read_numeral(second.numeral))
     else {
@@ -203,7 +210,8 @@ fn take_single(
     requires draft { IsDraft draft.old }
     requires set { IsField set.now }
     requires first { IsPair first }
-    ensures { IfOk result (λ j. Judges j draft.old (Values kind set.now (seen_pair first.entry) None) draft.new) }
+    ensures { IfOk result (λ j. Judges j draft.old
+        (Values kind set.now (seen_pair first.entry) None) draft.new) }
 {
     if is_used_for(draft, kind, set) {
         return take_value(alloc, draft, kind, set, first);
@@ -227,7 +235,8 @@ fn take_double(
     requires set { IsField set.now }
     requires first { IsPair first }
     requires second { IsPair second }
-    ensures { IfOk result (λ j. Judges j draft.old (Values kind set.now (seen_pair first.entry) (Some (seen_pair second.entry))) draft.new) }
+    ensures { IfOk result (λ j. Judges j draft.old
+        (Values kind set.now (seen_pair first.entry) (Some (seen_pair second.entry))) draft.new) }
 {
     if is_used_for(draft, kind, set) {
         return take_two_values(alloc, draft, kind, set, first, second);
