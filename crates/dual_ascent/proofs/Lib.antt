@@ -9,3 +9,13 @@ pub mod Choices
 pub mod Multipliers
 pub mod LeastBounds
 pub mod PassedPoints
+pub mod EndMoves
+pub mod RisingSums
+pub mod Changes
+pub mod Concave
+pub mod Transposing
+pub mod RowFacts
+pub mod GainSums
+pub mod NextMultipliers
+pub mod KeptGains
+pub mod CostMoves

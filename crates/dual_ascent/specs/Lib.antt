@@ -1,3 +1,5 @@
 pub mod Climbs
 pub mod Ascents
 pub mod Laws
+pub mod Ends
+pub mod Kept

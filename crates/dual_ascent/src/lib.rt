@@ -2,9 +2,14 @@
 //! the numerator of the bound is greatest.
 #![tactic(auto)]
 
+mod all_rows;
 mod ascent;
 mod climb;
+mod columns;
+mod ends;
+mod gain;
 mod laws;
+mod reduced;
 #[cfg(test)]
 mod tests;
 mod work;
@@ -14,3 +19,4 @@ pub use laws::{
     ascent_has_multipliers, bound_is_above_least, failing_point_is_passed, no_round_lowers,
     no_row_lowers, point_is_reached, row_takes_first_greatest,
 };
+pub use reduced::Reduced;

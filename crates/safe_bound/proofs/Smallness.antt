@@ -19,7 +19,7 @@ use Rattle.safe_bound.specs.Laws.{NumeratorIsSmall}
 use Rattle.safe_bound.specs.Premises.{AreCuts, AreLight, AreLightTerms, AreSmall, HasNarrowLeasts, IsWithinReach, shares_width}
 use Rattle.ip_core.proofs.ColumnSums.{int_sum_below-same, sum_below-le}
 use Rattle.safe_bound.proofs.Sizes.{weighted_narrow}
-use Rattle.safe_bound.proofs.Shares.{share_small}
+use Rattle.safe_bound.proofs.Shares.{part_within_sum, share_small}
 use Rattle.safe_bound.proofs.Columns.{reduced_small}
 
 -- a column reaches no further than in the root box
@@ -40,7 +40,8 @@ coefficients_within : (s : Sides) (terms : List Term) → sum_by (λ (t : Term).
 coefficients_within s [] = omega arith
 coefficients_within s (t ∷ terms) = rw (sum_by-cons (λ (u : Term). unsigned_abs u.coef) t terms, sum_by-cons (term_width s) t terms) (omega (arith, one_term s t, coefficients_within s terms))
 
-light_row : (n : ℕ) (root : Sides) (row : Row) → IsRow n root row → AreLightTerms n row.terms
+-- the coefficients of a row are small together
+pub light_row : (n : ℕ) (root : Sides) (row : Row) → IsRow n root row → AreLightTerms n row.terms
 light_row n root row is_row = record { known = is_row.terms; narrow = omega (arith, coefficients_within root row.terms, is_row.narrow) }
 
 -- rows of a model have small coefficients
@@ -92,3 +93,14 @@ scratch_shares m cuts s ys costs valid within same =
 -- the rows of a model and its cuts are not too many
 pub rows_few : (m : ModelParts) (cuts : List Row) → IsModel m → AreCuts m cuts → length (all_rows m cuts) ≤ 2 ^ 30 + 2 ^ 12
 rows_few m cuts valid are_cuts = rw length-append (omega (arith, valid.few.row_limit, are_cuts.few))
+
+one_reach : (n r most : ℕ) → n * r ≤ most → 1 ≤ r → n ≤ most
+one_reach n r most within some =
+    let whole : n * 1 ≤ n * r = mul-le-mul_left n some in
+    omega (arith, whole)
+
+-- one reduced cost
+pub reduced_cost_small : (m : ModelParts) (cuts : List Row) (ys : List ℕ) (j : ℕ) → IsModel m → AreRows (length m.cols) m.root cuts → AreSmall ys → j < length m.costs → unsigned_abs (reduced_cost m cuts ys j) ≤ 2 ^ 60 + length (all_rows m cuts) * 2 ^ 90
+reduced_cost_small m cuts ys j valid cut_rows small known =
+    let part = part_within_sum j (length m.costs) (λ k. unsigned_abs (reduced_cost m cuts ys k) * reach m.root k) known in
+    one_reach (unsigned_abs (reduced_cost m cuts ys j)) (reach m.root j) (2 ^ 60 + length (all_rows m cuts) * 2 ^ 90) (omega (arith, part, reduced_small m cuts ys valid cut_rows small)) (omega arith)

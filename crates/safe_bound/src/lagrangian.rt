@@ -1,6 +1,7 @@
-ghost use Rattle.std.specs.Prelude.{◌≡◌, ◌≤◌, ◌^◌, pos, length, unsigned_abs};
+ghost use Rattle.std.specs.Prelude.{ℕ, ◌≡◌, ◌<◌, ◌≤◌, ◌^◌, pos, length, unsigned_abs};
+ghost use Rattle.ip_core.specs.Numbers.{int_at};
 ghost use Rattle.ip_core.specs.Quotients.{ceiling_quotient};
-ghost use Rattle.safe_bound.specs.Bounds.{bound_point, lagrangian_bound, numerator};
+ghost use Rattle.safe_bound.specs.Bounds.{bound_point, lagrangian_bound, numerator, reduced_cost};
 ghost use Rattle.safe_bound.specs.Premises.{AreCuts, AreMultipliers, IsWithinReach};
 
 use crate::costs::{cheapest_end, least, reduce, shares};
@@ -8,7 +9,7 @@ use crate::limits::SCALE;
 use ip_core::{Bounds, Model, Point, Row};
 
 /// The numerator of the bound, which is 1,024 times as large. Rows stand before cuts, with one multiplier for each.
-/// It takes no memory. What it leaves in `scratch`, which has a place for each column, has no meaning.
+/// It takes no memory. It leaves the reduced cost of each column in `scratch`, which has a place for each.
 pub fn numerator(
     model: &Model,
     cuts: &[Row],
@@ -22,6 +23,9 @@ pub fn numerator(
     requires room { length model.now.cols ≤ length scratch.old }
     ensures value { result ≡ numerator model.now cuts.now bounds.now mults.now }
     ensures small { unsigned_abs result ≤ 2 ^ 123 }
+    ensures reduced { (j : ℕ) → j < length model.now.cols →
+        int_at scratch.new j ≡ reduced_cost model.now cuts.now mults.now j }
+    ensures long { length scratch.new ≡ length scratch.old }
 {
     let _limits = model.parts();
     reduce(model, cuts, mults, scratch);
