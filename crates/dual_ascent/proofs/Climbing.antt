@@ -1,7 +1,7 @@
 use Rattle.std.proofs.Common.{◌≡◌, ℕ, zero, suc, ◌+◌, ◌≤◌, Bool, true, false, ◌==◌, if◌then◌else◌, List, [], ◌∷◌, length, get_or, set, ℤ, ◌≤ℤ◌, int_lt, refl, ap, arith}
 use Rattle.std.proofs.lemmas.Int.{ints}
 use Rattle.std.proofs.lemmas.List.{set-get_or}
-use Rattle.dual_ascent.specs.declared.climb.Climb.{Climb}
+use Rattle.dual_ascent.specs.Climbs.{Climb}
 use Rattle.dual_ascent.specs.Climbs.{better, first_greatest, changes, trial, after_row, after_rows, after_round, after_rounds}
 use Rattle.dual_ascent.proofs.Rounds.{counted_round}
 use Rattle.dual_ascent.specs.Laws.{NoRowLowers, NoRoundLowers, RoundsAreFew}

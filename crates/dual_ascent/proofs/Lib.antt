@@ -19,3 +19,4 @@ pub mod GainSums
 pub mod NextMultipliers
 pub mod KeptGains
 pub mod CostMoves
+pub mod Choosing

@@ -7,7 +7,7 @@ use Rattle.ip_core.specs.declared.row.Row.{Row}
 use Rattle.safe_bound.specs.declared.limits.TheConstants.{MAX_MULTIPLIER}
 use Rattle.safe_bound.specs.Bounds.{all_rows, numerator}
 use Rattle.safe_bound.specs.Premises.{AreMultipliers, AreSmall}
-use Rattle.dual_ascent.specs.declared.climb.Climb.{Climb}
+use Rattle.dual_ascent.specs.Climbs.{Climb}
 use Rattle.dual_ascent.specs.Climbs.{after_row, after_rows, after_round, after_rounds, next_multiplier}
 use Rattle.dual_ascent.specs.Ascents.{first_climb}
 use Rattle.dual_ascent.specs.Laws.{AscentHasMultipliers}

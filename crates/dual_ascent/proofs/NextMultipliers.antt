@@ -19,13 +19,14 @@ use Rattle.dual_ascent.proofs.Concave.{stays, rises, falls, drops, no_rise, no_f
 use Rattle.dual_ascent.proofs.Multipliers.{small_at}
 use Rattle.dual_ascent.proofs.RowFacts.{row_valid}
 
-gain_none : (a b g : ℤ) → g ≡ int_max (pos 0) (a -ℤ b) → g ≤ℤ pos 0 → a ≤ℤ b
+pub gain_none : (a b g : ℤ) → g ≡ int_max (pos 0) (a -ℤ b) → g ≤ℤ pos 0 → a ≤ℤ b
 gain_none a b g is none = omega (arith, ints, clamps)
 
-gain_some : (a b g : ℤ) → g ≡ int_max (pos 0) (a -ℤ b) → pos 0 <ℤ g → b <ℤ a
+-- what a gain says of the two numerators
+pub gain_some : (a b g : ℤ) → g ≡ int_max (pos 0) (a -ℤ b) → pos 0 <ℤ g → b <ℤ a
 gain_some a b g is some = omega (arith, ints, clamps)
 
-more_some : (a b c g h : ℤ) → g ≡ int_max (pos 0) (b -ℤ c) → pos 0 <ℤ g → h ≡ int_max g (a -ℤ c) → g <ℤ h → b <ℤ a
+pub more_some : (a b c g h : ℤ) → g ≡ int_max (pos 0) (b -ℤ c) → pos 0 <ℤ g → h ≡ int_max g (a -ℤ c) → g <ℤ h → b <ℤ a
 more_some a b c g h is some next more = omega (arith, ints, clamps)
 
 more_none : (a b c g h : ℤ) → g ≡ int_max (pos 0) (b -ℤ c) → pos 0 <ℤ g → h ≡ int_max g (a -ℤ c) → h ≤ℤ g → a ≤ℤ b

@@ -18,7 +18,7 @@ use Rattle.safe_bound.proofs.LeastValues.{le-ceiling, numerator-none}
 use Rattle.safe_bound.proofs.PointBoxes.{least_value_of_point, numerator_of_point}
 use Rattle.safe_bound.proofs.Safety.{rows_known}
 use Rattle.safe_bound.proofs.Weighted.{AreKnown, weighted_sum-set}
-use Rattle.dual_ascent.specs.declared.climb.Climb.{Climb}
+use Rattle.dual_ascent.specs.Climbs.{Climb}
 use Rattle.dual_ascent.specs.Climbs.{after_row, after_rows, after_round, after_rounds, is_same, next_multiplier}
 use Rattle.dual_ascent.specs.Ascents.{ascent, first_climb, greatest_size}
 use Rattle.dual_ascent.specs.Laws.{IsFailing, FailingPointIsPassed}

@@ -6,7 +6,7 @@ use Rattle.ip_core.specs.Sides.{Sides}
 use Rattle.ip_core.specs.declared.model.ModelParts.{ModelParts}
 use Rattle.ip_core.specs.declared.row.Row.{Row}
 use Rattle.safe_bound.specs.Bounds.{numerator}
-use Rattle.dual_ascent.specs.declared.climb.Climb.{Climb}
+use Rattle.dual_ascent.specs.Climbs.{Climb}
 use Rattle.dual_ascent.specs.Ascents.{ascent, first_climb}
 use Rattle.dual_ascent.specs.Climbs.{after_rows, after_round, after_rounds, is_same}
 

@@ -7,7 +7,7 @@ use Rattle.ip_core.specs.declared.row.Row.{Row}
 use Rattle.ip_core.specs.declared.limits.TheConstants.{MAX_COLUMNS}
 use Rattle.safe_bound.specs.declared.limits.TheConstants.{MAX_MULTIPLIER}
 use Rattle.safe_bound.specs.Bounds.{all_rows, numerator}
-use Rattle.dual_ascent.specs.declared.climb.Climb.{Climb}
+use Rattle.dual_ascent.specs.Climbs.{Climb}
 use Rattle.dual_ascent.specs.Climbs.{after_rounds}
 
 -- the greatest absolute value of numbers, and 0 of none

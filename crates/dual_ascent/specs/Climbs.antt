@@ -2,7 +2,12 @@
 use Rattle.std.specs.Prelude.{ℕ, zero, suc, ◌+◌, ◌-◌, ◌/◌, min, Bool, ◌==◌, if◌then◌else◌, List, [], ◌∷◌, length, slice_index, slice_set, ℤ, int_lt}
 use Rattle.std.specs.Str.{bytes_eq}
 use Rattle.safe_bound.specs.declared.limits.TheConstants.{MAX_MULTIPLIER}
-use Rattle.dual_ascent.specs.declared.climb.Climb.{Climb}
+
+-- a climb between two rounds: its multipliers, its step size, and how many rounds it has had
+pub record Climb : Type 0 where
+  pub mults : List ℕ
+  pub step_size : ℕ
+  pub rounds : ℕ
 
 -- the second of two where it is worth more, else the first
 abbrev pub better : (ℕ → ℤ) → ℕ → ℕ → ℕ

@@ -3,3 +3,4 @@ pub mod Ascents
 pub mod Laws
 pub mod Ends
 pub mod Kept
+pub mod KeptClimbs

@@ -52,20 +52,19 @@ pub fn ascend<P: Pulse>(
     let columns = model.parts().cols.len();
     let mut scratch = vec![in alloc; 0; columns]?;
     let mut point = Point::of(List::of(vec![in alloc; 0; columns]?));
-    let climb = final_climb(alloc, model, cuts, bounds, &mut scratch, pulse)?;
-    let mults = climb.mults;
-    let bound = bound(model, cuts, bounds, mults.as_slice(), &mut scratch);
+    let climb = final_climb(alloc, model, cuts, bounds, pulse)?;
+    let bound = bound(model, cuts, bounds, climb.kept.mults(), &mut scratch);
     least_point(
         model,
         cuts,
         bounds,
-        mults.as_slice(),
+        climb.kept.mults(),
         &mut scratch,
         &mut point,
     );
     let work = climb.rounds * round_work(model, cuts);
     Ok(Ascent {
-        mults,
+        mults: climb.kept.into_mults(),
         bound,
         point,
         work,

@@ -66,6 +66,13 @@ impl Reduced {
         self.mults.as_slice()
     }
 
+    /// The multipliers alone. It takes no memory.
+    pub fn into_mults(self) -> List<u64>
+        ensures { result ≡ self.mults }
+    {
+        self.mults
+    }
+
     /// The numerator of the multipliers.
     pub fn numerator(&self) -> i128
         ensures { result ≡ self.now.numerator }

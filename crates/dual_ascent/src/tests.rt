@@ -1,4 +1,4 @@
-ghost use Rattle.std.specs.Prelude.{◌≤◌};
+ghost use Rattle.std.specs.Prelude.{◌≡◌, ◌≤◌, ◌^◌};
 ghost use Rattle.ip_core.specs.Models.{term_count};
 ghost use Rattle.safe_bound.specs.Premises.{AreCuts};
 
@@ -7,7 +7,7 @@ use ip_core::{Bounds, List, Model, ModelParts, Name, OutOfMemory, Row, Term, Tex
 use safe_bound::MAX_MULTIPLIER;
 use std::alloc::Global;
 use std::test::Fail;
-use work_stamp::NoPulse;
+use work_stamp::{NoPulse, Pulse};
 
 /// A model in plain numbers: costs, the two sides of the root box, and rows with a coefficient for each column.
 #[derive(Clone, Copy)]
@@ -229,6 +229,90 @@ fn agrees(alloc: Global, plain: Plain, terms: u64) -> Result<bool, Fail> {
     Ok(found.mults.as_slice() == mults.as_slice() && found.work == work)
 }
 
+/// Draws of a linear congruence, which give the same numbers each time.
+struct Draws {
+    state: u64,
+}
+
+impl Draws {
+    /// A number from -3 to 3, times a scale.
+    fn number(&mut self, scale: i64) -> i64 {
+        self.state = self
+            .state
+            .wrapping_mul(6_364_136_223_846_793_005)
+            .wrapping_add(1_442_695_040_888_963_407);
+        (((self.state >> 33) % 7) as i64 - 3).wrapping_mul(scale)
+    }
+
+    fn numbers(&mut self, scale: i64) -> [i64; 3] {
+        [self.number(scale), self.number(scale), self.number(scale)]
+    }
+}
+
+/// Whether the ascent agrees with the slow one on a drawn model whose rows stand once more as cuts. Every third model has
+/// numbers of up to 2^40, and some have empty columns.
+fn agrees_drawn(alloc: Global, seed: u64) -> Result<bool, Fail> {
+    let mut draws = Draws { state: seed };
+    let scale = match seed % 3 {
+        0 => 1,
+        1 => 1_000,
+        _ => 274_877_906_944,
+    };
+    let costs = draws.numbers(scale);
+    let lows = draws.numbers(1);
+    let gaps = draws.numbers(1);
+    let highs = [
+        lows[0].wrapping_add(gaps[0]).wrapping_add(2),
+        lows[1].wrapping_add(gaps[1]).wrapping_add(2),
+        lows[2].wrapping_add(gaps[2]).wrapping_add(2),
+    ];
+    let first = draws.numbers(scale);
+    let second = draws.numbers(scale);
+    let third = draws.numbers(scale);
+    let leasts = draws.numbers(scale);
+    let rows: [(&[i64], i64); 3] = [
+        (&first, leasts[0]),
+        (&second, leasts[1]),
+        (&third, leasts[2]),
+    ];
+    let twice = [rows[0], rows[1], rows[2], rows[0], rows[1], rows[2]];
+    let plain = Plain {
+        costs: &costs,
+        lows: &lows,
+        highs: &highs,
+        rows: &rows,
+    };
+    let model = model(alloc, plain)?;
+    // The model's rows serve as cuts.
+    let _limits = model.parts();
+    let found = ascent_of(alloc, &model, model.rows())?;
+    let (mults, rounds) = slow_ascent(
+        alloc,
+        Plain {
+            rows: &twice,
+            ..plain
+        },
+    )?;
+    let mut terms = 0u64;
+    for (coefs, _) in twice {
+        for coef in coefs {
+            terms = terms.wrapping_add(if *coef == 0 { 0 } else { 1 });
+        }
+    }
+    let work = rounds.wrapping_mul(terms.wrapping_mul(3).wrapping_add(1));
+    Ok(found.mults.as_slice() == mults.as_slice() && found.work == work)
+}
+
+/// The first of `count` drawn models on which the two ascents differ.
+fn first_drawn_difference(alloc: Global, count: u64) -> Result<Option<u64>, Fail> {
+    for seed in 0..count {
+        if !agrees_drawn(alloc, seed)? {
+            return Ok(Some(seed));
+        }
+    }
+    Ok(None)
+}
+
 /// Two columns from -1 to 4 and from 1 to 3, and two rows.
 const PAIR: Plain<'static> = Plain {
     costs: &[2, -3],
@@ -264,6 +348,100 @@ fn agrees_with_slow_climbs(rt: HostRuntime) -> Result<(), Fail> {
     assert!(rt; agrees(alloc, PACKED, 9)?);
     assert!(rt; agrees(alloc, EMPTY, 3)?);
     assert!(rt; agrees(alloc, HOPELESS, 1)?);
+    assert_eq!(rt; first_drawn_difference(alloc, 100)?, None);
+    Ok(())
+}
+
+/// The numerator with the first row's multiplier changed to each of these in turn, without and with keeping it.
+fn numerators(alloc: Global, model: &Model, mults: [u64; 3]) -> Result<[(i128, i128); 3], Fail> {
+    if model.rows().is_empty() || mults[0] > MAX_MULTIPLIER || mults[1] > MAX_MULTIPLIER {
+        return Err("a row and small multipliers".into());
+    }
+    if mults[2] > MAX_MULTIPLIER {
+        return Err("small multipliers".into());
+    }
+    let mut kept = Reduced::of(alloc, model, &[], model.root())?;
+    let first = kept.trial(model, &[], model.root(), 0, mults[0]);
+    let second = kept.trial(model, &[], model.root(), 0, mults[1]);
+    let third = kept.trial(model, &[], model.root(), 0, mults[2]);
+    kept.set(model, &[], model.root(), 0, mults[0]);
+    let first_kept = kept.numerator();
+    kept.set(model, &[], model.root(), 0, mults[1]);
+    let second_kept = kept.numerator();
+    kept.set(model, &[], model.root(), 0, mults[2]);
+    Ok([
+        (first, first_kept),
+        (second, second_kept),
+        (third, kept.numerator()),
+    ])
+}
+
+#[test]
+fn keeps_sums(rt: HostRuntime) -> Result<(), Fail> {
+    let alloc = rt.alloc();
+    let found = numerators(alloc, &model(alloc, SINGLE)?, [512, 1_024, 0])?;
+    assert_eq!(rt; found, [(1_536, 1_536), (-2_048, -2_048), (0, 0)]);
+    Ok(())
+}
+
+/// A pulse that adds up what it is told. Contracts see it as the work that may still be told.
+#[derive(Debug, Drop)]
+struct Told {
+    left: u64,
+    ticks: u64,
+    sum: u64,
+}
+
+impl std::marker::Model for Told {
+    ghost use Rattle.std.specs.Prelude.{ℕ};
+
+    ghost Value = { ℕ };
+
+    ghost view = { λ p. p.left };
+}
+
+impl Told {
+    fn new() -> Told
+        ensures { result ≡ 2 ^ 40 }
+    {
+        Told {
+            left: 1_099_511_627_776,
+            ticks: 0,
+            sum: 0,
+        }
+    }
+}
+
+impl Pulse for Told {
+    ghost Rest = { Unit {0} };
+
+    ghost allowance = { λ p. p };
+
+    ghost IsReady = { λ _. Unit {0} };
+
+    ghost rest = { λ _. tt };
+
+    fn tick(&mut self, work: u64) {
+        self.left -= work;
+        self.ticks = self.ticks.wrapping_add(1);
+        self.sum = self.sum.wrapping_add(work);
+    }
+}
+
+/// The ticks of the ascent over the root box, and their sum.
+#[tactic(auto, using(crate::proofs::AscentWork::ascent_work_allowed))]
+fn ticks(alloc: Global, model: &Model) -> Result<(u64, u64), Fail> {
+    // The model's limits keep the ascent's work within the allowance.
+    let _limits = model.parts();
+    let mut pulse = Told::new();
+    let _found = ascend(alloc, model, &[], model.root(), &mut pulse)?;
+    Ok((pulse.ticks, pulse.sum))
+}
+
+#[test]
+fn tells_each_round(rt: HostRuntime) -> Result<(), Fail> {
+    let alloc = rt.alloc();
+    assert_eq!(rt; ticks(alloc, &model(alloc, SINGLE)?)?, (13, 52));
     Ok(())
 }
 

@@ -13,7 +13,7 @@ returns-clause-least g c =
     let cuts = c.args.cuts.now in
     let s = c.args.bounds.now in
     let exact : to_z w128 (of_z w128 c.bound-bound.result) ≡ c.bound-bound.result = to_z-of_z w128 c.bound-bound.result (record { sfits = c.bound-bound.type_inv }) in
-    let mults : c.as_slice.result.now ≡ (ascent m cuts s).mults = c.as_slice.ensures ∙ ap (λ k. k.mults) c.in_ok-climb.ensures.value in
+    let mults : c.mults.result.now ≡ (ascent m cuts s).mults = c.mults.ensures ∙ ap (λ k. k.mults) c.in_ok-climb.ensures.value in
     let bound : c.bound-bound.result ≡ ascent_bound m cuts s = c.bound-bound.ensures ∙ ap (lagrangian_bound m cuts s) mults in
     rw (exact, bound) (bound_is_above_least m cuts s)
 
@@ -23,6 +23,6 @@ returns-clause-limit g c =
     let cuts = c.args.cuts.now in
     let s = c.args.bounds.now in
     let exact : to_z w128 (of_z w128 c.bound-bound.result) ≡ c.bound-bound.result = to_z-of_z w128 c.bound-bound.result (record { sfits = c.bound-bound.type_inv }) in
-    let mults : c.as_slice.result.now ≡ (ascent m cuts s).mults = c.as_slice.ensures ∙ ap (λ k. k.mults) c.in_ok-climb.ensures.value in
+    let mults : c.mults.result.now ≡ (ascent m cuts s).mults = c.mults.ensures ∙ ap (λ k. k.mults) c.in_ok-climb.ensures.value in
     let bound : c.bound-bound.result ≡ ascent_bound m cuts s = c.bound-bound.ensures ∙ ap (lagrangian_bound m cuts s) mults in
     rw (exact, bound) (bound_is_above_limit m cuts s c.parts.ensures.limits c.requires.within)
