@@ -62,4 +62,5 @@ after_round worth c =
 -- a climb after up to n more rounds: it ends where its step size is 0
 unfoldable pub after_rounds : (List ℕ → ℤ) → ℕ → Climb → Climb
 after_rounds worth zero c = c
-after_rounds worth (suc n) c = if c.step_size == 0 then c else after_rounds worth n (after_round worth c)
+after_rounds worth (suc n) c = if c.step_size == 0 then c
+    else after_rounds worth n (after_round worth c)

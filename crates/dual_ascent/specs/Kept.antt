@@ -52,7 +52,8 @@ pub record IsKept (m : ModelParts) (cuts : List Row) (s : Sides) (v : Reduced) :
 pub record HasRowAdded (k : ℕ) (terms : List Term) (old new : List (List Term)) : Type 0 where
   pub long : length new ≡ length old
   pub own : (j : ℕ) → j < length old →
-      coefficient k (slice_index_or new j []) ≡ coefficient k (slice_index_or old j []) +ℤ coefficient j terms
+      coefficient k (slice_index_or new j []) ≡
+      coefficient k (slice_index_or old j []) +ℤ coefficient j terms
   pub others : (j i : ℕ) → i ≢ k →
       coefficient i (slice_index_or new j []) ≡ coefficient i (slice_index_or old j [])
   pub light : (j : ℕ) →

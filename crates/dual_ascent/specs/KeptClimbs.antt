@@ -15,7 +15,8 @@ abbrev pub climb_of : KeptClimb → Climb
 climb_of c = record { mults = c.kept.mults; step_size = c.step_size; rounds = c.rounds }
 
 -- what row k takes in place of its multiplier, with the numerator that it brings
-pub record IsChoice (m : ModelParts) (cuts : List Row) (s : Sides) (size : ℕ) (v : Reduced) (k : ℕ) (c : Choice) : Type 0 where
+pub record IsChoice (m : ModelParts) (cuts : List Row) (s : Sides) (size : ℕ) (v : Reduced) (k : ℕ)
+    (c : Choice) : Type 0 where
   pub mult : c.mult ≡ next_multiplier (numerator m cuts s) size v.mults k
   pub numerator : c.numerator ≡ numerator m cuts s (slice_set v.mults k c.mult)
   pub other : c.mult ≢ slice_index v.mults k
