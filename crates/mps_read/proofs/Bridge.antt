@@ -1,9 +1,9 @@
 use Rattle.std.proofs.Common.{◌≡◌, ◌∙◌, ℕ, ◌+◌, ◌==◌, Bool, true, false, not, ◌||◌, ◌&&◌, List, [], ◌∷◌, ◌++◌, Option, Some, None, refl, sym, ap, arith, if◌then◌else◌}
 use Rattle.std.specs.Str.{bytes_eq}
 use Rattle.std.proofs.lemmas.Bool.{false≢true, true≢false}
-use Rattle.mps_read.specs.Lines.{lines_of}
+use Rattle.mps_lines.specs.Lines.{lines_of}
 use Rattle.mps_read.specs.Names.{is_among, place_among, is_long}
-use Rattle.mps_read.specs.Forms.{Form, Pair, Blank, Spoilt, Head, UnknownHead, Stray, Miscounted, SenseLine, FreeRow, KeptRow, UntypedRow, Marker, UnknownMarker, Entries, Values, BoundLine, UntypedBound, form_of, is_end, has_numeral}
+use Rattle.mps_lines.specs.Forms.{Form, Pair, Blank, Spoilt, Head, UnknownHead, Stray, Miscounted, SenseLine, FreeRow, KeptRow, UntypedRow, Marker, UnknownMarker, Entries, Values, BoundLine, UntypedBound, form_of, is_end, has_numeral}
 use Rattle.mps_read.specs.Numerals.{is_numeral}
 use Rattle.mps_read.specs.Headers.{section_of, has_sense_line_of}
 use Rattle.mps_read.specs.Sets.{is_used, set_of, bound_set_of, pairs_in, is_named}
@@ -17,14 +17,14 @@ use Rattle.mps_read.specs.Drafts.{first_draft}
 use Rattle.mps_read.specs.Steps.{after, draft_model, run}
 use Rattle.mps_read.specs.declared.error.MpsKind.{MpsKind}
 use Rattle.mps_read.specs.declared.error.MpsKind.TheVariants.{Numeral, RepeatedName, UnknownName, RepeatedEntry}
-use Rattle.mps_read.specs.declared.section.Section.TheVariants.{Name, Objsense, Rows, Columns, Rhs, Ranges, Bounds, Endata}
-use Rattle.mps_read.specs.declared.section.ValueKind.{ValueKind}
-use Rattle.mps_read.specs.declared.section.ValueKind.TheVariants.{Side, Range}
+use Rattle.mps_lines.specs.declared.section.Section.TheVariants.{Name, Objsense, Rows, Columns, Rhs, Ranges, Bounds, Endata}
+use Rattle.mps_lines.specs.declared.section.ValueKind.{ValueKind}
+use Rattle.mps_lines.specs.declared.section.ValueKind.TheVariants.{Side, Range}
 use Rattle.mps_read.specs.declared.draft.Draft.{Draft}
 use Rattle.mps_read.specs.declared.draft.Mark.{Mark}
 use Rattle.mps_read.specs.declared.draft.RowPlace.TheVariants.{Dropped}
 use Rattle.mps_read.specs.declared.draft.RowState.{RowState}
-use Rattle.mps_read.proofs.Truths.{by_case, and_true, none_else}
+use Rattle.mps_lines.proofs.Truths.{by_case, and_true, none_else}
 use Rattle.mps_read.proofs.PrintNames.{place_absent}
 use Rattle.mps_read.proofs.Lookups.{map_at, eq_of, turned}
 use Rattle.mps_read.proofs.SaidNames.{and_none, places_eq, named_push}

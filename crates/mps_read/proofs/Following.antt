@@ -10,7 +10,7 @@ use Rattle.mps_model.specs.declared.model.MpsCol.{MpsCol}
 use Rattle.mps_model.specs.declared.model.MpsEntry.{MpsEntry}
 use Rattle.mps_read.specs.Names.{is_among, place_among, extended, with_name}
 use Rattle.mps_read.specs.Numerals.{decimal_of}
-use Rattle.mps_read.specs.Forms.{Form, Pair, FreeRow, KeptRow, Entries, Values, BoundLine}
+use Rattle.mps_lines.specs.Forms.{Form, Pair, FreeRow, KeptRow, Entries, Values, BoundLine}
 use Rattle.mps_read.specs.Headers.{has_section}
 use Rattle.mps_model.specs.Prints.{fresh_row}
 use Rattle.mps_read.specs.Sets.{is_used, first_given, set_of, bound_set_of, pairs_in, pairs_on, is_named, number_of, number_or_zero}
@@ -20,17 +20,17 @@ use Rattle.mps_read.specs.Kinds.{is_repeated, repeats}
 use Rattle.mps_read.specs.DraftRows.{fresh, free_place, state_at, with_marked, with_value, with_constant, place_of_pair}
 use Rattle.mps_read.specs.DraftColumns.{fresh_column, with_coefficient, with_mark, with_bound}
 use Rattle.mps_read.specs.Steps.{after, after_pairs, after_bound, after_value_pair, with_values_set}
-use Rattle.mps_read.specs.declared.section.Section.TheVariants.{Rhs, Ranges, Bounds}
-use Rattle.mps_read.specs.declared.section.ValueKind.{ValueKind}
-use Rattle.mps_read.specs.declared.section.ValueKind.TheVariants.{Side, Range}
-use Rattle.mps_read.specs.declared.section.BoundKind.{BoundKind}
+use Rattle.mps_lines.specs.declared.section.Section.TheVariants.{Rhs, Ranges, Bounds}
+use Rattle.mps_lines.specs.declared.section.ValueKind.{ValueKind}
+use Rattle.mps_lines.specs.declared.section.ValueKind.TheVariants.{Side, Range}
+use Rattle.mps_lines.specs.declared.section.BoundKind.{BoundKind}
 use Rattle.mps_read.specs.declared.draft.Draft.{Draft}
 use Rattle.mps_read.specs.declared.draft.Mark.{Mark}
 use Rattle.mps_read.specs.declared.draft.RowPlace.{RowPlace}
 use Rattle.mps_read.specs.declared.draft.RowPlace.TheVariants.{Dropped, Kept}
 use Rattle.mps_read.specs.declared.draft.RowState.{RowState}
 use Rattle.mps_read.specs.declared.draft.SetUse.{SetUse}
-use Rattle.mps_read.proofs.Truths.{by_case, or_false}
+use Rattle.mps_lines.proofs.Truths.{by_case, or_false}
 use Rattle.mps_read.proofs.Keeping.{longer}
 use Rattle.mps_read.proofs.Naming.{list_any_images}
 use Rattle.mps_read.proofs.PrintNames.{same_bytes, place_absent, place_first}

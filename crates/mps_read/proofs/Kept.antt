@@ -4,7 +4,7 @@ use Rattle.ip_core.specs.Decimals.{Number}
 use Rattle.mps_read.specs.Names.{is_among, place_among, with_name}
 use Rattle.mps_model.specs.Numbers.{is_zero}
 use Rattle.mps_read.specs.Numerals.{decimal_of}
-use Rattle.mps_read.specs.Forms.{Form, Pair, Blank, Spoilt, Head, UnknownHead, Stray, Miscounted, SenseLine, FreeRow, KeptRow, UntypedRow, Marker, UnknownMarker, Entries, Values, BoundLine, UntypedBound}
+use Rattle.mps_lines.specs.Forms.{Form, Pair, Blank, Spoilt, Head, UnknownHead, Stray, Miscounted, SenseLine, FreeRow, KeptRow, UntypedRow, Marker, UnknownMarker, Entries, Values, BoundLine, UntypedBound}
 use Rattle.mps_read.specs.Sets.{is_used, first_given}
 use Rattle.mps_model.specs.Prints.{fresh_row}
 use Rattle.mps_read.specs.DraftRows.{fresh, free_place, state_at, is_tested, with_marked, with_value, place_of_pair}
@@ -18,15 +18,15 @@ use Rattle.mps_read.proofs.Places.{place_new}
 use Rattle.mps_read.specs.Steps.{after, after_head, after_free, after_row, after_column, after_entry, after_entry_pair, after_value, after_value_pair, with_values_set}
 use Rattle.mps_model.specs.declared.model.RowKind.{RowKind}
 use Rattle.mps_model.specs.declared.model.MpsCol.{MpsCol}
-use Rattle.mps_read.specs.declared.section.Section.{Section}
-use Rattle.mps_read.specs.declared.section.Section.TheVariants.{Name, Objsense, Rows, Columns, Rhs, Ranges, Bounds, Endata}
-use Rattle.mps_read.specs.declared.section.ValueKind.{ValueKind}
-use Rattle.mps_read.specs.declared.section.ValueKind.TheVariants.{Side, Range}
+use Rattle.mps_lines.specs.declared.section.Section.{Section}
+use Rattle.mps_lines.specs.declared.section.Section.TheVariants.{Name, Objsense, Rows, Columns, Rhs, Ranges, Bounds, Endata}
+use Rattle.mps_lines.specs.declared.section.ValueKind.{ValueKind}
+use Rattle.mps_lines.specs.declared.section.ValueKind.TheVariants.{Side, Range}
 use Rattle.mps_read.specs.declared.draft.Draft.{Draft}
 use Rattle.mps_read.specs.declared.draft.RowPlace.{RowPlace}
 use Rattle.mps_read.specs.declared.draft.RowPlace.TheVariants.{Objective, Dropped, Kept}
 use Rattle.mps_read.specs.declared.draft.SetUse.{SetUse}
-use Rattle.mps_read.proofs.Truths.{by_case}
+use Rattle.mps_lines.proofs.Truths.{by_case}
 use Rattle.mps_read.proofs.Keeping.{remade, with_marked-place, with_marked-length, with_value-length, placed-push, placed-more, latest-push, longer, tested-within}
 use Rattle.mps_read.proofs.Marks.{marked-more, latest-below}
 

@@ -8,9 +8,6 @@ pub mod SaidColumns
 pub mod Standing
 pub mod Following
 pub mod Bridge
-pub mod Truths
-pub mod Cutting
-pub mod Visible
 pub mod Infinities
 pub mod Places
 pub mod Keeping

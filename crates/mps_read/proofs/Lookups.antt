@@ -4,7 +4,7 @@ use Rattle.std.specs.Str.{bytes_eq}
 use Rattle.std.proofs.lemmas.Bool.{false≢true}
 use Rattle.std.proofs.lemmas.Slice.Eq.{bytes_eq-Decides}
 use Rattle.mps_read.specs.Names.{is_among, place_among}
-use Rattle.mps_read.proofs.Truths.{by_case, or_false}
+use Rattle.mps_lines.proofs.Truths.{by_case, or_false}
 use Rattle.mps_read.proofs.PrintNames.{place_by, differ, same_bytes}
 
 -- lists of images, and the item that a test finds

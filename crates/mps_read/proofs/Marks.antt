@@ -4,7 +4,7 @@ use Rattle.std.proofs.lemmas.Bool.Decides.{nat_tests}
 use Rattle.mps_read.specs.DraftKinds.{has_mark}
 use Rattle.mps_read.specs.Drafts.{latest_at}
 use Rattle.mps_read.specs.declared.draft.Mark.{Mark}
-use Rattle.mps_read.proofs.Truths.{by_case}
+use Rattle.mps_lines.proofs.Truths.{by_case}
 
 or_same : (b : Bool) → (b || false) ≡ b
 or_same true = refl

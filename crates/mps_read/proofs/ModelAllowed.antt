@@ -2,14 +2,14 @@ use Rattle.std.proofs.Common.{◌≡◌, ℕ, Bool, true, false, not, ◌&&◌, 
 use Rattle.std.specs.Str.{bytes_eq}
 use Rattle.std.proofs.lemmas.Bool.{true≢false}
 use Rattle.mps_read.specs.Names.{is_among, is_long}
-use Rattle.mps_read.specs.Forms.{Form, Pair, Head, FreeRow, KeptRow, Entries, marker_word}
+use Rattle.mps_lines.specs.Forms.{Form, Pair, Head, FreeRow, KeptRow, Entries, marker_word}
 use Rattle.mps_read.specs.DraftKinds.{has_begun, draft_kind, is_repeated_in}
 use Rattle.mps_read.specs.Kinds.{rank_of, is_in_order, has_bad_numeral, has_unknown_name, is_split_column}
 use Rattle.mps_read.specs.declared.error.MpsKind.TheVariants.{SectionOrder, Numeral, RepeatedName, UnknownName, RepeatedEntry, SplitColumn, Marker, NoObjective, LongName}
 use Rattle.mps_model.specs.declared.model.RowKind.{RowKind}
-use Rattle.mps_read.specs.declared.section.Section.TheVariants.{Name, Columns, Rhs, Ranges, Bounds, Endata}
+use Rattle.mps_lines.specs.declared.section.Section.TheVariants.{Name, Columns, Rhs, Ranges, Bounds, Endata}
 use Rattle.mps_read.specs.declared.draft.Draft.{Draft}
-use Rattle.mps_read.proofs.Truths.{none_else}
+use Rattle.mps_lines.proofs.Truths.{none_else}
 
 -- what is known of a line that no test refuses
 

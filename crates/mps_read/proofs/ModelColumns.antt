@@ -19,14 +19,14 @@ use Rattle.mps_model.specs.declared.model.Limit.{Limit}
 use Rattle.mps_model.specs.declared.model.Limit.TheVariants.{Free, At}
 use Rattle.mps_model.specs.declared.model.MpsCol.{MpsCol}
 use Rattle.mps_model.specs.declared.model.MpsEntry.{MpsEntry}
-use Rattle.mps_read.specs.declared.section.BoundKind.{BoundKind}
-use Rattle.mps_read.specs.declared.section.BoundKind.TheVariants.{Lower, Upper, Fixed, IntegerLower, IntegerUpper, Free as NoSides, NoLower, NoUpper, Binary}
+use Rattle.mps_lines.specs.declared.section.BoundKind.{BoundKind}
+use Rattle.mps_lines.specs.declared.section.BoundKind.TheVariants.{Lower, Upper, Fixed, IntegerLower, IntegerUpper, Free as NoSides, NoLower, NoUpper, Binary}
 use Rattle.mps_read.specs.declared.draft.Draft.{Draft}
 use Rattle.mps_read.specs.declared.draft.Mark.{Mark}
 use Rattle.mps_read.specs.declared.draft.RowPlace.{RowPlace}
 use Rattle.mps_read.specs.declared.draft.RowPlace.TheVariants.{Objective, Dropped, Kept}
 use Rattle.mps_read.specs.declared.draft.RowState.{RowState}
-use Rattle.mps_read.proofs.Truths.{or_false}
+use Rattle.mps_lines.proofs.Truths.{or_false}
 use Rattle.mps_read.proofs.Marks.{has_mark-push, same_eq}
 use Rattle.mps_read.proofs.ModelLists.{Misses, AreApart, misses_push, apart_push, at_set, at_push, each_set, map_set_same, misses_names}
 use Rattle.mps_read.proofs.ModelDrafts.{rows_in, IsColumn, AreColumns, AreSingle, AreMarked, AreReadable, IsReadable}

@@ -8,7 +8,7 @@ use Rattle.mps_read.specs.Kinds.{rank_of}
 use Rattle.mps_model.specs.MpsModels.{IsField, IsRowName, IsMpsRow, IsMpsEntry, IsLow, IsHigh}
 use Rattle.mps_model.specs.declared.model.MpsRow.{MpsRow}
 use Rattle.mps_model.specs.declared.model.MpsCol.{MpsCol}
-use Rattle.mps_read.specs.declared.section.Section.{Section}
+use Rattle.mps_lines.specs.declared.section.Section.{Section}
 use Rattle.mps_read.specs.declared.draft.Draft.{Draft}
 use Rattle.mps_read.specs.declared.draft.Mark.{Mark}
 use Rattle.mps_read.specs.declared.draft.RowPlace.TheVariants.{Kept}

@@ -3,14 +3,14 @@ use Rattle.std.proofs.lemmas.Bool.{false≢true}
 use Rattle.std.proofs.lemmas.List.Elements.{All-nil, All-weaker}
 use Rattle.ip_core.specs.Decimals.{IsDecimal}
 use Rattle.ip_core.proofs.DecimalReads.{zero_is}
-use Rattle.mps_read.specs.Forms.{Form, Blank, Spoilt, Head, UnknownHead, Stray, Miscounted, SenseLine, FreeRow, KeptRow, UntypedRow, Marker, UnknownMarker, Entries, Values, BoundLine, UntypedBound, is_end}
+use Rattle.mps_lines.specs.Forms.{Form, Blank, Spoilt, Head, UnknownHead, Stray, Miscounted, SenseLine, FreeRow, KeptRow, UntypedRow, Marker, UnknownMarker, Entries, Values, BoundLine, UntypedBound, is_end}
 use Rattle.mps_read.specs.DraftKinds.{draft_kind}
 use Rattle.mps_read.specs.Drafts.{IsDraft, first_draft}
 use Rattle.mps_read.specs.Readings.{is_maximise, name_or_empty}
 use Rattle.mps_read.specs.Steps.{draft_model}
 use Rattle.mps_model.specs.MpsModels.{IsMpsRow, IsMpsCol, IsMpsModel}
 use Rattle.mps_model.specs.declared.model.MpsCol.{MpsCol}
-use Rattle.mps_read.specs.declared.section.Section.TheVariants.{Name, Objsense, Rows, Columns, Rhs, Ranges, Bounds, Endata}
+use Rattle.mps_lines.specs.declared.section.Section.TheVariants.{Name, Objsense, Rows, Columns, Rhs, Ranges, Bounds, Endata}
 use Rattle.mps_read.specs.declared.draft.Draft.{Draft}
 use Rattle.mps_read.proofs.ModelLists.{AreApart, distinct}
 use Rattle.mps_read.proofs.ModelFields.{name_is}

@@ -6,17 +6,17 @@ use Rattle.std.proofs.lemmas.Bool.Decides.{nat_tests}
 use Rattle.std.proofs.lemmas.List.Elements.{All-nil, All-cons}
 use Rattle.ip_core.specs.Names.{IsName, IsNameByte}
 use Rattle.mps_read.specs.Names.{is_long}
-use Rattle.mps_read.specs.Lines.{Words, Zero, One, Two, Three, Four, Five, Many, words_of, fields, pieces, first_word, has_none, is_comment, is_data, is_visible, is_filled, is_line_byte}
-use Rattle.mps_read.specs.Forms.{Form, Blank, Spoilt, Head, UnknownHead, Stray, Miscounted, SenseLine, FreeRow, KeptRow, UntypedRow, Marker, UnknownMarker, Entries, Values, BoundLine, UntypedBound, marker_word, section_named, second_word, known_head, head_form, sense_form, row_kind_named, kept_row, rows_form, marker_form, columns_form, values_form, bound_named, has_numeral, numeral_bound, plain_bound, typed_bound, data_form, words_form, form_of}
+use Rattle.mps_lines.specs.Lines.{Words, Zero, One, Two, Three, Four, Five, Many, words_of, fields, pieces, first_word, has_none, is_comment, is_data, is_visible, is_filled, is_line_byte}
+use Rattle.mps_lines.specs.Forms.{Form, Blank, Spoilt, Head, UnknownHead, Stray, Miscounted, SenseLine, FreeRow, KeptRow, UntypedRow, Marker, UnknownMarker, Entries, Values, BoundLine, UntypedBound, marker_word, section_named, second_word, known_head, head_form, sense_form, row_kind_named, kept_row, rows_form, marker_form, columns_form, values_form, bound_named, has_numeral, numeral_bound, plain_bound, typed_bound, data_form, words_form, form_of}
 use Rattle.mps_model.specs.MpsModels.{IsField, IsRowName}
 use Rattle.mps_model.specs.declared.model.RowKind.{RowKind}
-use Rattle.mps_read.specs.declared.section.Section.{Section}
-use Rattle.mps_read.specs.declared.section.Section.TheVariants.{Name, Objsense, Rows, Columns, Rhs, Ranges, Bounds, Endata}
-use Rattle.mps_read.specs.declared.section.ValueKind.{ValueKind}
-use Rattle.mps_read.specs.declared.section.ValueKind.TheVariants.{Side, Range}
-use Rattle.mps_read.specs.declared.section.BoundKind.{BoundKind}
-use Rattle.mps_read.proofs.Truths.{and_true, by_case}
-use Rattle.mps_read.proofs.Visible.{all_visible, pieces-visible, filter-visible}
+use Rattle.mps_lines.specs.declared.section.Section.{Section}
+use Rattle.mps_lines.specs.declared.section.Section.TheVariants.{Name, Objsense, Rows, Columns, Rhs, Ranges, Bounds, Endata}
+use Rattle.mps_lines.specs.declared.section.ValueKind.{ValueKind}
+use Rattle.mps_lines.specs.declared.section.ValueKind.TheVariants.{Side, Range}
+use Rattle.mps_lines.specs.declared.section.BoundKind.{BoundKind}
+use Rattle.mps_lines.proofs.Truths.{and_true, by_case}
+use Rattle.mps_lines.proofs.Visible.{all_visible, pieces-visible, filter-visible}
 
 -- the names that a line brings are fields
 

@@ -6,7 +6,7 @@ use Rattle.std.proofs.lemmas.List.Folds.{list_any-append}
 use Rattle.std.proofs.lemmas.Slice.Eq.{bytes_eq-Decides}
 use Rattle.mps_read.specs.Names.{is_among}
 use Rattle.mps_model.specs.MpsModels.{AreDistinct}
-use Rattle.mps_read.proofs.Truths.{or_false}
+use Rattle.mps_lines.proofs.Truths.{or_false}
 use Rattle.mps_read.proofs.PrintNames.{same_bytes}
 
 -- lists whose items differ

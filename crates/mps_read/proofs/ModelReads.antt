@@ -1,7 +1,7 @@
 use Rattle.std.proofs.Common.{◌≡◌, ◌∙◌, ℕ, ◌+◌, Bool, true, false, List, [], ◌∷◌, Option, Some, None, refl, ap, subst}
 use Rattle.std.proofs.lemmas.Bool.{false≢true}
-use Rattle.mps_read.specs.Lines.{lines_of}
-use Rattle.mps_read.specs.Forms.{Form, form_of, is_end}
+use Rattle.mps_lines.specs.Lines.{lines_of}
+use Rattle.mps_lines.specs.Forms.{Form, form_of, is_end}
 use Rattle.mps_read.specs.DraftKinds.{draft_kind}
 use Rattle.mps_read.specs.Drafts.{IsDraft, first_draft}
 use Rattle.mps_read.specs.Steps.{after, run, draft_model}

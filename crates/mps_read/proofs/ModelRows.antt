@@ -16,8 +16,8 @@ use Rattle.mps_model.specs.declared.model.RowKind.TheVariants.{Less}
 use Rattle.mps_model.specs.declared.model.MpsRow.{MpsRow}
 use Rattle.mps_model.specs.declared.model.MpsEntry.{MpsEntry}
 use Rattle.mps_model.specs.declared.model.MpsCol.{MpsCol}
-use Rattle.mps_read.specs.declared.section.ValueKind.{ValueKind}
-use Rattle.mps_read.specs.declared.section.ValueKind.TheVariants.{Side, Range}
+use Rattle.mps_lines.specs.declared.section.ValueKind.{ValueKind}
+use Rattle.mps_lines.specs.declared.section.ValueKind.TheVariants.{Side, Range}
 use Rattle.mps_read.specs.declared.draft.Mark.{Mark}
 use Rattle.mps_read.specs.declared.draft.RowPlace.{RowPlace}
 use Rattle.mps_read.specs.declared.draft.RowPlace.TheVariants.{Objective, Dropped, Kept}

@@ -3,9 +3,9 @@ use Rattle.std.specs.List.{list_all}
 use Rattle.std.proofs.lemmas.Bool.{false≢true, true≢false}
 use Rattle.ip_core.specs.Decimals.{Number, IsDecimal}
 use Rattle.mps_read.specs.Names.{is_among, place_among, extended}
-use Rattle.mps_read.specs.Lines.{is_visible}
+use Rattle.mps_lines.specs.Lines.{is_visible}
 use Rattle.mps_read.specs.Numerals.{decimal_of}
-use Rattle.mps_read.specs.Forms.{Form, Pair, Blank, Spoilt, Head, UnknownHead, Stray, Miscounted, SenseLine, FreeRow, KeptRow, UntypedRow, Marker, UnknownMarker, Entries, Values, BoundLine, UntypedBound}
+use Rattle.mps_lines.specs.Forms.{Form, Pair, Blank, Spoilt, Head, UnknownHead, Stray, Miscounted, SenseLine, FreeRow, KeptRow, UntypedRow, Marker, UnknownMarker, Entries, Values, BoundLine, UntypedBound}
 use Rattle.mps_read.specs.Sets.{is_used, first_given}
 use Rattle.mps_model.specs.Prints.{fresh_row}
 use Rattle.mps_read.specs.DraftRows.{fresh, free_place, state_at, is_tested, place_of_pair}
@@ -15,15 +15,15 @@ use Rattle.mps_read.specs.Drafts.{IsDraft}
 use Rattle.mps_read.specs.Steps.{after, after_head, after_bound, after_column, after_entry_pair, after_value, after_value_pair, with_values_set}
 use Rattle.mps_model.specs.MpsModels.{IsRowName}
 use Rattle.mps_model.specs.declared.model.RowKind.{RowKind}
-use Rattle.mps_read.specs.declared.section.Section.{Section}
-use Rattle.mps_read.specs.declared.section.Section.TheVariants.{Name, Objsense, Rows, Columns, Rhs, Ranges, Bounds, Endata}
-use Rattle.mps_read.specs.declared.section.ValueKind.{ValueKind}
-use Rattle.mps_read.specs.declared.section.ValueKind.TheVariants.{Side, Range}
-use Rattle.mps_read.specs.declared.section.BoundKind.{BoundKind}
+use Rattle.mps_lines.specs.declared.section.Section.{Section}
+use Rattle.mps_lines.specs.declared.section.Section.TheVariants.{Name, Objsense, Rows, Columns, Rhs, Ranges, Bounds, Endata}
+use Rattle.mps_lines.specs.declared.section.ValueKind.{ValueKind}
+use Rattle.mps_lines.specs.declared.section.ValueKind.TheVariants.{Side, Range}
+use Rattle.mps_lines.specs.declared.section.BoundKind.{BoundKind}
 use Rattle.mps_read.specs.declared.draft.Draft.{Draft}
 use Rattle.mps_read.specs.declared.draft.RowPlace.{RowPlace}
 use Rattle.mps_read.specs.declared.draft.RowPlace.TheVariants.{Kept}
-use Rattle.mps_read.proofs.Truths.{or_false}
+use Rattle.mps_lines.proofs.Truths.{or_false}
 use Rattle.mps_read.proofs.ModelFields.{HasWords, name_is, field_is, row_name_is}
 use Rattle.mps_read.proofs.ModelDrafts.{IsHeader, AreReadable, IsReadable}
 use Rattle.mps_read.proofs.ModelRows.{given_objective, given_some, free_rows, more_rows, placed_below, free_single, kept_single, free_marked, kept_marked, more_columns, constant_kept, value_rows, value_single, value_marked}

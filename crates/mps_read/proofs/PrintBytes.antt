@@ -15,7 +15,7 @@ use Rattle.ip_core.specs.Texts.{last_digits}
 use Rattle.ip_core.specs.Prints.{numeral_text, number_text}
 use Rattle.ip_core.proofs.DecimalDigits.{and_true, le_of_test}
 use Rattle.ip_core.proofs.DecimalPrints.{written_digits, last_are_digits}
-use Rattle.mps_read.specs.Lines.{with_byte, lines_of, pieces, fields, is_separator, is_visible, is_line_byte, is_filled}
+use Rattle.mps_lines.specs.Lines.{with_byte, lines_of, pieces, fields, is_separator, is_visible, is_line_byte, is_filled}
 use Rattle.mps_model.specs.MpsModels.{IsField}
 use Rattle.mps_model.specs.Prints.{spaced}
 

@@ -9,8 +9,8 @@ use Rattle.ip_core.specs.Prints.{number_text}
 use Rattle.ip_core.proofs.DecimalReadback.{read_number_text}
 use Rattle.mps_read.specs.Names.{is_among, place_among, is_long}
 use Rattle.mps_read.specs.Numerals.{is_read, is_numeral, or_zero, decimal_of}
-use Rattle.mps_read.specs.Lines.{lines_of, fields, words_of, is_line_byte}
-use Rattle.mps_read.specs.Forms.{Form, Pair, Spoilt, KeptRow, Entries, Values, BoundLine, form_of, words_form, is_end, has_numeral, marker_word}
+use Rattle.mps_lines.specs.Lines.{lines_of, fields, words_of, is_line_byte}
+use Rattle.mps_lines.specs.Forms.{Form, Pair, Spoilt, KeptRow, Entries, Values, BoundLine, form_of, words_form, is_end, has_numeral, marker_word}
 use Rattle.mps_read.specs.Sets.{is_used}
 use Rattle.mps_read.specs.DraftRows.{state_at}
 use Rattle.mps_read.specs.DraftKinds.{draft_kind, has_mark}
@@ -19,8 +19,8 @@ use Rattle.mps_read.specs.Readings.{Reading, Read, outcome}
 use Rattle.mps_read.specs.Steps.{draft_model, after, run}
 use Rattle.mps_model.specs.Prints.{spaced, data_line}
 use Rattle.mps_model.specs.declared.model.RowKind.{RowKind}
-use Rattle.mps_read.specs.declared.section.ValueKind.TheVariants.{Side, Range}
-use Rattle.mps_read.specs.declared.section.BoundKind.{BoundKind}
+use Rattle.mps_lines.specs.declared.section.ValueKind.TheVariants.{Side, Range}
+use Rattle.mps_lines.specs.declared.section.BoundKind.{BoundKind}
 use Rattle.mps_read.specs.declared.draft.Draft.{Draft}
 use Rattle.mps_read.proofs.PrintBytes.{is_word, line_first, spaced_line, spaced_fields}
 

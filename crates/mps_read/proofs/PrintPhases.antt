@@ -10,7 +10,7 @@ use Rattle.mps_model.specs.declared.model.Limit.TheVariants.{Unset}
 use Rattle.mps_model.specs.declared.model.MpsRow.{MpsRow}
 use Rattle.mps_model.specs.declared.model.MpsCol.{MpsCol}
 use Rattle.mps_model.specs.declared.model.MpsModel.{MpsModel}
-use Rattle.mps_read.specs.declared.section.Section.TheVariants.{Rows, Columns}
+use Rattle.mps_lines.specs.declared.section.Section.TheVariants.{Rows, Columns}
 use Rattle.mps_read.specs.declared.draft.RowPlace.{RowPlace}
 use Rattle.mps_read.specs.declared.draft.RowPlace.TheVariants.{Objective, Kept}
 use Rattle.mps_read.specs.declared.draft.RowState.{RowState}

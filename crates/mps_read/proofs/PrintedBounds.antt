@@ -6,8 +6,8 @@ use Rattle.ip_core.specs.Decimals.{Number, IsDecimal}
 use Rattle.ip_core.specs.Prints.{number_text}
 use Rattle.mps_read.specs.Names.{is_among, place_among}
 use Rattle.mps_read.specs.Numerals.{decimal_of}
-use Rattle.mps_read.specs.Lines.{words_of}
-use Rattle.mps_read.specs.Forms.{Head, BoundLine, words_form, has_numeral}
+use Rattle.mps_lines.specs.Lines.{words_of}
+use Rattle.mps_lines.specs.Forms.{Head, BoundLine, words_form, has_numeral}
 use Rattle.mps_read.specs.Sets.{is_used}
 use Rattle.mps_read.specs.Steps.{with_set, with_head, draft_model, after, after_head, after_bound, run}
 use Rattle.mps_read.specs.DraftColumns.{fresh_column, bounded_column, with_bound}
@@ -21,10 +21,10 @@ use Rattle.mps_model.specs.declared.model.Limit.TheVariants.{Unset, Free, At}
 use Rattle.mps_model.specs.declared.model.MpsRow.{MpsRow}
 use Rattle.mps_model.specs.declared.model.MpsCol.{MpsCol}
 use Rattle.mps_model.specs.declared.model.MpsModel.{MpsModel}
-use Rattle.mps_read.specs.declared.section.Section.{Section}
-use Rattle.mps_read.specs.declared.section.Section.TheVariants.{Bounds, Endata}
-use Rattle.mps_read.specs.declared.section.BoundKind.{BoundKind}
-use Rattle.mps_read.specs.declared.section.BoundKind.TheVariants.{Lower, Upper, NoLower, NoUpper}
+use Rattle.mps_lines.specs.declared.section.Section.{Section}
+use Rattle.mps_lines.specs.declared.section.Section.TheVariants.{Bounds, Endata}
+use Rattle.mps_lines.specs.declared.section.BoundKind.{BoundKind}
+use Rattle.mps_lines.specs.declared.section.BoundKind.TheVariants.{Lower, Upper, NoLower, NoUpper}
 use Rattle.mps_read.specs.declared.draft.SetUse.{SetUse}
 use Rattle.mps_read.specs.declared.draft.Draft.{Draft}
 use Rattle.mps_read.proofs.PrintBytes.{is_word, field_word, number_word, three_words, four_words}

@@ -9,8 +9,8 @@ use Rattle.ip_core.proofs.DecimalDigits.{and_true}
 use Rattle.mps_read.specs.Names.{is_among, place_among, extended, with_name}
 use Rattle.mps_model.specs.Numbers.{zero_decimal, is_zero}
 use Rattle.mps_read.specs.Numerals.{decimal_of}
-use Rattle.mps_read.specs.Lines.{words_of}
-use Rattle.mps_read.specs.Forms.{Pair, Head, Marker, Entries, form_of, words_form, marker_form, marker_word}
+use Rattle.mps_lines.specs.Lines.{words_of}
+use Rattle.mps_lines.specs.Forms.{Pair, Head, Marker, Entries, form_of, words_form, marker_form, marker_word}
 use Rattle.mps_model.specs.Prints.{fresh_row}
 use Rattle.mps_read.specs.DraftRows.{state_at, place_of_pair}
 use Rattle.mps_read.specs.DraftColumns.{fresh_column, column_at, with_entry, with_coefficient, with_mark}
@@ -24,7 +24,7 @@ use Rattle.mps_model.specs.declared.model.Limit.TheVariants.{Unset}
 use Rattle.mps_model.specs.declared.model.MpsEntry.{MpsEntry}
 use Rattle.mps_model.specs.declared.model.MpsCol.{MpsCol}
 use Rattle.mps_model.specs.declared.model.MpsModel.{MpsModel}
-use Rattle.mps_read.specs.declared.section.Section.TheVariants.{Columns}
+use Rattle.mps_lines.specs.declared.section.Section.TheVariants.{Columns}
 use Rattle.mps_read.specs.declared.draft.RowPlace.{RowPlace}
 use Rattle.mps_read.specs.declared.draft.RowPlace.TheVariants.{Objective, Kept}
 use Rattle.mps_read.specs.declared.draft.Mark.{Mark}

@@ -7,8 +7,8 @@ use Rattle.std.proofs.lemmas.List.Elements.{All-head, All-tail}
 use Rattle.std.proofs.lemmas.List.Folds.{list_all-append}
 use Rattle.ip_core.specs.Names.{IsName}
 use Rattle.mps_read.specs.Names.{is_among, is_long, extended}
-use Rattle.mps_read.specs.Lines.{words_of, fields}
-use Rattle.mps_read.specs.Forms.{Head, SenseLine, FreeRow, KeptRow, Spoilt, form_of, words_form, marker_word}
+use Rattle.mps_lines.specs.Lines.{words_of, fields}
+use Rattle.mps_lines.specs.Forms.{Head, SenseLine, FreeRow, KeptRow, Spoilt, form_of, words_form, marker_word}
 use Rattle.mps_model.specs.Prints.{fresh_row}
 use Rattle.mps_read.specs.DraftRows.{fresh}
 use Rattle.mps_read.specs.DraftKinds.{draft_kind}
@@ -22,8 +22,8 @@ use Rattle.mps_model.specs.declared.model.RowKind.{RowKind}
 use Rattle.mps_model.specs.declared.model.RowKind.TheVariants.{Less, Greater, Equal}
 use Rattle.mps_model.specs.declared.model.MpsRow.{MpsRow}
 use Rattle.mps_model.specs.declared.model.MpsModel.{MpsModel}
-use Rattle.mps_read.specs.declared.section.Section.{Section}
-use Rattle.mps_read.specs.declared.section.Section.TheVariants.{Name, Objsense, Rows}
+use Rattle.mps_lines.specs.declared.section.Section.{Section}
+use Rattle.mps_lines.specs.declared.section.Section.TheVariants.{Name, Objsense, Rows}
 use Rattle.mps_read.specs.declared.draft.RowPlace.TheVariants.{Kept}
 use Rattle.mps_read.specs.declared.draft.Draft.{Draft}
 use Rattle.mps_read.proofs.PrintBytes.{is_word, name_word, field_word, two_words, head_fields, head_line}

@@ -10,8 +10,8 @@ use Rattle.ip_core.proofs.DecimalReduced.{negated_is}
 use Rattle.mps_read.specs.Names.{is_among, place_among, is_long}
 use Rattle.mps_model.specs.Numbers.{zero_decimal, is_zero}
 use Rattle.mps_read.specs.Numerals.{is_numeral, decimal_of}
-use Rattle.mps_read.specs.Lines.{words_of, is_line_byte}
-use Rattle.mps_read.specs.Forms.{Pair, Head, Values, form_of, words_form, is_end}
+use Rattle.mps_lines.specs.Lines.{words_of, is_line_byte}
+use Rattle.mps_lines.specs.Forms.{Pair, Head, Values, form_of, words_form, is_end}
 use Rattle.mps_read.specs.Drafts.{no_set}
 use Rattle.mps_read.specs.Sets.{is_used, first_given}
 use Rattle.mps_read.specs.Steps.{with_set, with_head, after, after_head, after_value, after_value_pair, with_values_set}
@@ -25,10 +25,10 @@ use Rattle.mps_model.specs.Prints.{pair_line, nonzero_line, row_name, section_li
 use Rattle.mps_model.specs.declared.model.RowKind.TheVariants.{Less}
 use Rattle.mps_model.specs.declared.model.MpsRow.{MpsRow}
 use Rattle.mps_model.specs.declared.model.MpsModel.{MpsModel}
-use Rattle.mps_read.specs.declared.section.Section.{Section}
-use Rattle.mps_read.specs.declared.section.Section.TheVariants.{Columns, Rhs, Ranges}
-use Rattle.mps_read.specs.declared.section.ValueKind.{ValueKind}
-use Rattle.mps_read.specs.declared.section.ValueKind.TheVariants.{Side, Range}
+use Rattle.mps_lines.specs.declared.section.Section.{Section}
+use Rattle.mps_lines.specs.declared.section.Section.TheVariants.{Columns, Rhs, Ranges}
+use Rattle.mps_lines.specs.declared.section.ValueKind.{ValueKind}
+use Rattle.mps_lines.specs.declared.section.ValueKind.TheVariants.{Side, Range}
 use Rattle.mps_read.specs.declared.draft.RowPlace.{RowPlace}
 use Rattle.mps_read.specs.declared.draft.RowPlace.TheVariants.{Objective, Dropped, Kept}
 use Rattle.mps_read.specs.declared.draft.RowState.{RowState}

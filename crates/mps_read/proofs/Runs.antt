@@ -1,6 +1,6 @@
 use Rattle.std.proofs.Common.{◌≡◌, ℕ, ◌+◌, false, List, ◌∷◌, None, refl}
-use Rattle.mps_read.specs.Lines.{lines_of}
-use Rattle.mps_read.specs.Forms.{form_of, is_end}
+use Rattle.mps_lines.specs.Lines.{lines_of}
+use Rattle.mps_lines.specs.Forms.{form_of, is_end}
 use Rattle.mps_read.specs.DraftKinds.{draft_kind}
 use Rattle.mps_read.specs.Steps.{after, run}
 use Rattle.mps_read.specs.declared.draft.Draft.{Draft}

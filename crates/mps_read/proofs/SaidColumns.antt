@@ -8,19 +8,19 @@ use Rattle.mps_model.specs.declared.model.MpsEntry.{MpsEntry}
 use Rattle.mps_model.specs.declared.model.MpsCol.{MpsCol}
 use Rattle.mps_read.specs.Names.{is_among, place_among, extended, with_name}
 use Rattle.mps_read.specs.Numerals.{decimal_of}
-use Rattle.mps_read.specs.Forms.{Pair}
+use Rattle.mps_lines.specs.Forms.{Pair}
 use Rattle.mps_read.specs.Sets.{is_named, number_or_zero}
 use Rattle.mps_read.specs.Rows.{is_objective, is_single, objective_number}
 use Rattle.mps_read.specs.Columns.{Bound, entries_of, low_of, high_of, is_made_integer, column_of}
 use Rattle.mps_read.specs.DraftRows.{is_tested}
 use Rattle.mps_read.specs.DraftColumns.{fresh_column, with_entry, with_coefficient, bounded_column, with_bound, with_mark}
 use Rattle.mps_read.specs.DraftKinds.{has_mark}
-use Rattle.mps_read.specs.declared.section.BoundKind.{BoundKind}
-use Rattle.mps_read.specs.declared.section.BoundKind.TheVariants.{Lower, Upper, Fixed, IntegerLower, IntegerUpper, Free as NoSides, NoLower, NoUpper, Binary}
+use Rattle.mps_lines.specs.declared.section.BoundKind.{BoundKind}
+use Rattle.mps_lines.specs.declared.section.BoundKind.TheVariants.{Lower, Upper, Fixed, IntegerLower, IntegerUpper, Free as NoSides, NoLower, NoUpper, Binary}
 use Rattle.mps_read.specs.declared.draft.RowPlace.{RowPlace}
 use Rattle.mps_read.specs.declared.draft.RowPlace.TheVariants.{Objective, Dropped, Kept}
 use Rattle.mps_read.specs.declared.draft.Mark.{Mark}
-use Rattle.mps_read.proofs.Truths.{by_case}
+use Rattle.mps_lines.proofs.Truths.{by_case}
 use Rattle.mps_read.proofs.Marks.{has_mark-push, not_eq}
 use Rattle.mps_read.proofs.PrintNames.{same_bytes}
 use Rattle.mps_read.proofs.Lookups.{IsSingle, map_all, map_change, eq_of, turned}

@@ -6,9 +6,9 @@ use Rattle.std.proofs.lemmas.Bool.Decides.{nat_tests}
 use Rattle.std.proofs.lemmas.List.Folds.{list_any-append}
 use Rattle.mps_read.specs.Names.{is_among, place_among, with_name}
 use Rattle.mps_read.specs.Numerals.{decimal_of}
-use Rattle.mps_read.specs.Forms.{Pair}
+use Rattle.mps_lines.specs.Forms.{Pair}
 use Rattle.mps_read.specs.Sets.{is_named, number_of}
-use Rattle.mps_read.proofs.Truths.{by_case, or_false}
+use Rattle.mps_lines.proofs.Truths.{by_case, or_false}
 use Rattle.mps_read.proofs.Marks.{same_eq}
 use Rattle.mps_read.proofs.Naming.{list_any_images}
 use Rattle.mps_read.proofs.PrintNames.{place_by, differ, same_bytes, place_absent, with_new, with_known}

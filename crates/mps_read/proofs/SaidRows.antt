@@ -10,15 +10,15 @@ use Rattle.mps_model.specs.declared.model.RowKind.TheVariants.{Less}
 use Rattle.mps_model.specs.declared.model.MpsRow.{MpsRow}
 use Rattle.mps_read.specs.Names.{is_among, place_among}
 use Rattle.mps_read.specs.Numerals.{decimal_of}
-use Rattle.mps_read.specs.Forms.{Pair}
+use Rattle.mps_lines.specs.Forms.{Pair}
 use Rattle.mps_read.specs.Sets.{first_given, is_named, number_of, number_or_zero}
 use Rattle.mps_read.specs.Rows.{RowLine, is_objective, is_single, objective_number, row_of}
 use Rattle.mps_read.specs.DraftRows.{fresh, free_place, is_tested, marked_state, with_marked, valued_row, with_value, with_constant}
-use Rattle.mps_read.specs.declared.section.ValueKind.TheVariants.{Side, Range}
+use Rattle.mps_lines.specs.declared.section.ValueKind.TheVariants.{Side, Range}
 use Rattle.mps_read.specs.declared.draft.RowPlace.{RowPlace}
 use Rattle.mps_read.specs.declared.draft.RowPlace.TheVariants.{Objective, Dropped, Kept}
 use Rattle.mps_read.specs.declared.draft.RowState.{RowState}
-use Rattle.mps_read.proofs.Truths.{by_case, or_false}
+use Rattle.mps_lines.proofs.Truths.{by_case, or_false}
 use Rattle.mps_read.proofs.Naming.{list_any_images, position_images}
 use Rattle.mps_read.proofs.PrintNames.{same_bytes, place_first}
 use Rattle.mps_read.proofs.Lookups.{IsSingle, map_all, map_same, map_change, eq_of, turned}

@@ -1,8 +1,8 @@
 use Rattle.std.proofs.Common.{◌≡◌, ◌∙◌, ℕ, ◌+◌, ◌≤◌, Bool, true, false, List, [], ◌∷◌, length, if◌then◌else◌, ◌==◌, refl, ap, subst, arith}
 use Rattle.std.proofs.lemmas.Bool.{false≢true}
 use Rattle.mps_model.specs.declared.model.MpsModel.{MpsModel}
-use Rattle.mps_read.specs.Lines.{lines_of, with_byte}
-use Rattle.mps_read.specs.Forms.{Form, form_of, is_end}
+use Rattle.mps_lines.specs.Lines.{lines_of, with_byte}
+use Rattle.mps_lines.specs.Forms.{Form, form_of, is_end}
 use Rattle.mps_read.specs.Readings.{Read, reading}
 use Rattle.mps_read.specs.DraftKinds.{draft_kind}
 use Rattle.mps_read.specs.Drafts.{IsDraft, first_draft}

@@ -3,7 +3,7 @@ use Rattle.std.specs.Str.{bytes_eq}
 use Rattle.std.proofs.lemmas.Bool.{false≢true}
 use Rattle.std.proofs.lemmas.List.{map-append}
 use Rattle.mps_read.specs.Names.{is_among, place_among, with_name}
-use Rattle.mps_read.specs.Forms.{Form, Pair}
+use Rattle.mps_lines.specs.Forms.{Form, Pair}
 use Rattle.mps_read.specs.Headers.{section_of, has_section, has_sense_line_of, name_of, maximise_of}
 use Rattle.mps_read.specs.Sets.{first_given, set_of, bound_set_of, pairs_in, is_named}
 use Rattle.mps_read.specs.Rows.{RowLine, row_names_of, objective_of, kept_rows_of, kept_names_of, is_objective, is_single, rows_of, constant_of}
@@ -11,11 +11,11 @@ use Rattle.mps_read.specs.Columns.{Bound, column_names_of, pairs_of, bounds_of, 
 use Rattle.mps_read.specs.DraftColumns.{with_mark}
 use Rattle.mps_read.specs.DraftKinds.{has_mark}
 use Rattle.mps_model.specs.declared.model.RowKind.{RowKind}
-use Rattle.mps_read.specs.declared.section.Section.TheVariants.{Rhs, Ranges, Bounds}
-use Rattle.mps_read.specs.declared.section.ValueKind.TheVariants.{Side, Range}
+use Rattle.mps_lines.specs.declared.section.Section.TheVariants.{Rhs, Ranges, Bounds}
+use Rattle.mps_lines.specs.declared.section.ValueKind.TheVariants.{Side, Range}
 use Rattle.mps_read.specs.declared.draft.Draft.{Draft}
 use Rattle.mps_read.specs.declared.draft.Mark.{Mark}
-use Rattle.mps_read.proofs.Truths.{by_case, or_false}
+use Rattle.mps_lines.proofs.Truths.{by_case, or_false}
 use Rattle.mps_read.proofs.Keeping.{longer}
 use Rattle.mps_read.proofs.PrintNames.{same_bytes, place_first, with_new, with_known}
 use Rattle.mps_read.proofs.ModelLists.{AreApart, AreAmong, apart_push, misses_names, misses_among, among_more, among_last, among_push as all_among_push}

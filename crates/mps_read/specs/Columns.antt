@@ -9,11 +9,11 @@ use Rattle.mps_model.specs.declared.model.MpsEntry.{MpsEntry}
 use Rattle.mps_model.specs.declared.model.MpsCol.{MpsCol}
 use Rattle.mps_read.specs.Names.{is_among, place_among, with_name}
 use Rattle.mps_read.specs.Numerals.{one_decimal, decimal_of}
-use Rattle.mps_read.specs.Forms.{Form, Pair, Marker, Entries, BoundLine}
+use Rattle.mps_lines.specs.Forms.{Form, Pair, Marker, Entries, BoundLine}
 use Rattle.mps_read.specs.Sets.{pairs_on, is_used, bound_set_of}
 use Rattle.mps_read.specs.Rows.{objective_of, kept_names_of, objective_number}
-use Rattle.mps_read.specs.declared.section.BoundKind.{BoundKind}
-use Rattle.mps_read.specs.declared.section.BoundKind.TheVariants.{Lower, Upper, Fixed, IntegerLower, IntegerUpper, Free as NoSides, NoLower, NoUpper, Binary}
+use Rattle.mps_lines.specs.declared.section.BoundKind.{BoundKind}
+use Rattle.mps_lines.specs.declared.section.BoundKind.TheVariants.{Lower, Upper, Fixed, IntegerLower, IntegerUpper, Free as NoSides, NoLower, NoUpper, Binary}
 
 -- the names of the columns in the order in which they first appear
 abbrev pub column_names_of : List Form → List (List ℕ)

@@ -2,16 +2,16 @@
 use Rattle.std.specs.Prelude.{ℕ, Bool, true, false, ◌&&◌, ◌||◌, ◌==◌, List, Option, Some, None, if◌then◌else◌}
 use Rattle.std.specs.List.{list_any}
 use Rattle.mps_read.specs.Names.{place_among}
-use Rattle.mps_read.specs.Forms.{Form, Pair, Entries, Values, BoundLine}
+use Rattle.mps_lines.specs.Forms.{Form, Pair, Entries, Values, BoundLine}
 use Rattle.mps_read.specs.Sets.{is_used}
 use Rattle.mps_read.specs.DraftRows.{state_at, is_tested}
 use Rattle.mps_read.specs.Kinds.{is_bad_byte, is_out_of_order, is_unknown_section, is_miscounted, has_bad_numeral, is_untyped_row, is_untyped_bound, is_repeated_name, has_unknown_name, is_split_column, is_bad_marker, lacks_objective, has_long_name, has_bad_sense}
 use Rattle.mps_read.specs.declared.error.MpsKind.{MpsKind}
 use Rattle.mps_read.specs.declared.error.MpsKind.TheVariants.{BadByte, SectionOrder, UnknownSection, FieldCount, Numeral, RowType, BoundType, RepeatedName, UnknownName, RepeatedEntry, SplitColumn, Marker, NoObjective, LongName, Sense}
-use Rattle.mps_read.specs.declared.section.Section.{Section}
-use Rattle.mps_read.specs.declared.section.Section.TheVariants.{Rhs, Ranges, Bounds}
-use Rattle.mps_read.specs.declared.section.ValueKind.{ValueKind}
-use Rattle.mps_read.specs.declared.section.ValueKind.TheVariants.{Side, Range}
+use Rattle.mps_lines.specs.declared.section.Section.{Section}
+use Rattle.mps_lines.specs.declared.section.Section.TheVariants.{Rhs, Ranges, Bounds}
+use Rattle.mps_lines.specs.declared.section.ValueKind.{ValueKind}
+use Rattle.mps_lines.specs.declared.section.ValueKind.TheVariants.{Side, Range}
 use Rattle.mps_read.specs.declared.draft.Draft.{Draft}
 use Rattle.mps_read.specs.declared.draft.Mark.{Mark}
 use Rattle.mps_read.specs.declared.draft.RowState.{RowState}

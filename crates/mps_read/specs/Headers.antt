@@ -1,9 +1,8 @@
 -- What the lines so far say of sections, the name and the sense. They stand newest first.
-use Rattle.std.specs.Prelude.{ℕ, Bool, true, false, ◌||◌, List, [], ◌∷◌, Option, Some, None, if◌then◌else◌, codes}
-use Rattle.std.specs.Str.{bytes_eq}
-use Rattle.mps_read.specs.Forms.{Form, Head, SenseLine}
-use Rattle.mps_read.specs.declared.section.Section.{Section}
-use Rattle.mps_read.specs.declared.section.Section.TheVariants.{Name, Objsense, Rows, Columns, Rhs, Ranges, Bounds, Endata}
+use Rattle.std.specs.Prelude.{ℕ, Bool, true, false, ◌||◌, List, [], ◌∷◌, Option, Some, None}
+use Rattle.mps_lines.specs.Forms.{Form, Head, SenseLine, sense_named}
+use Rattle.mps_lines.specs.declared.section.Section.{Section}
+use Rattle.mps_lines.specs.declared.section.Section.TheVariants.{Name, Objsense, Rows, Columns, Rhs, Ranges, Bounds, Endata}
 
 -- the section of the next line
 abbrev pub section_of : List Form → Option Section
@@ -41,13 +40,6 @@ abbrev pub name_of : List Form → List ℕ
 name_of [] = []
 name_of (Head Name word ∷ before) = word
 name_of (_ ∷ before) = name_of before
-
--- whether a word says to maximise or to minimise
-abbrev pub sense_named : List ℕ → Option Bool
-sense_named word =
-    if bytes_eq word (codes "MAX") || bytes_eq word (codes "MAXIMIZE") then Some true
-    else if bytes_eq word (codes "MIN") || bytes_eq word (codes "MINIMIZE") then Some false
-    else None
 
 -- whether to maximise, where the lines say it
 abbrev pub maximise_of : List Form → Option Bool

@@ -1,5 +1,5 @@
 use Rattle.std.specs.Prelude.{◌≡◌, true, false, Some, None}
-use Rattle.mps_read.specs.Forms.{Form, is_end}
+use Rattle.mps_lines.specs.Forms.{Form, is_end}
 use Rattle.mps_read.specs.DraftKinds.{draft_kind}
 use Rattle.mps_read.specs.Steps.{after}
 use Rattle.mps_read.specs.declared.draft.Draft.{Draft}

@@ -3,15 +3,15 @@ use Rattle.std.specs.Prelude.{ℕ, ◌+◌, Bool, true, false, not, ◌&&◌, �
 use Rattle.std.specs.Str.{bytes_eq}
 use Rattle.mps_read.specs.Names.{is_among, place_among, is_long}
 use Rattle.mps_read.specs.Numerals.{is_numeral}
-use Rattle.mps_read.specs.Forms.{Form, Pair, Spoilt, Head, UnknownHead, Stray, Miscounted, SenseLine, FreeRow, KeptRow, UntypedRow, UnknownMarker, Entries, Values, BoundLine, UntypedBound, marker_word, has_numeral}
-use Rattle.mps_read.specs.Headers.{section_of, has_section, sense_named, maximise_of}
+use Rattle.mps_lines.specs.Forms.{Form, Pair, Spoilt, Head, UnknownHead, Stray, Miscounted, SenseLine, FreeRow, KeptRow, UntypedRow, UnknownMarker, Entries, Values, BoundLine, UntypedBound, marker_word, has_numeral, sense_named}
+use Rattle.mps_read.specs.Headers.{section_of, has_section, maximise_of}
 use Rattle.mps_read.specs.Sets.{is_used, set_of, bound_set_of, pairs_in, is_named}
 use Rattle.mps_read.specs.Rows.{row_names_of, objective_of, kept_names_of, is_single}
 use Rattle.mps_read.specs.Columns.{column_names_of, pairs_of}
 use Rattle.mps_read.specs.declared.error.MpsKind.{MpsKind}
 use Rattle.mps_read.specs.declared.error.MpsKind.TheVariants.{BadByte, SectionOrder, UnknownSection, FieldCount, Numeral, RowType, BoundType, RepeatedName, UnknownName, RepeatedEntry, SplitColumn, Marker, NoObjective, LongName, Sense}
-use Rattle.mps_read.specs.declared.section.Section.{Section}
-use Rattle.mps_read.specs.declared.section.Section.TheVariants.{Name, Objsense, Rows, Columns, Rhs, Ranges, Bounds, Endata}
+use Rattle.mps_lines.specs.declared.section.Section.{Section}
+use Rattle.mps_lines.specs.declared.section.Section.TheVariants.{Name, Objsense, Rows, Columns, Rhs, Ranges, Bounds, Endata}
 
 -- whether both pairs pass, or the only one
 abbrev pub all_pairs : (Pair → Bool) → Pair → Option Pair → Bool

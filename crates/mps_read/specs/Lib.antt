@@ -1,7 +1,5 @@
 pub mod Names
-pub mod Lines
 pub mod Numerals
-pub mod Forms
 pub mod Headers
 pub mod Sets
 pub mod Rows
@@ -13,7 +11,6 @@ pub mod DraftColumns
 pub mod DraftKinds
 pub mod Drafts
 pub mod Steps
-pub mod Seen
 pub mod Judges
 pub mod Outcomes
 pub mod KindNumbers

@@ -1,7 +1,7 @@
 -- What a text is: a model, or refused at its first line that isn't allowed.
 use Rattle.std.specs.Prelude.{ℕ, ◌+◌, ◌≡◌, Bool, true, false, List, [], ◌∷◌, Option, Some, None}
-use Rattle.mps_read.specs.Lines.{lines_of}
-use Rattle.mps_read.specs.Forms.{Form, form_of, is_end}
+use Rattle.mps_lines.specs.Lines.{lines_of}
+use Rattle.mps_lines.specs.Forms.{Form, form_of, is_end}
 use Rattle.mps_read.specs.Headers.{section_of, has_sense_line_of, name_of, maximise_of}
 use Rattle.mps_read.specs.Rows.{objective_of, rows_of, constant_of}
 use Rattle.mps_read.specs.Columns.{cols_of}

@@ -6,9 +6,9 @@ use Rattle.mps_model.specs.Numbers.{zero_decimal}
 use Rattle.mps_model.specs.declared.model.RowKind.{RowKind}
 use Rattle.mps_model.specs.declared.model.MpsRow.{MpsRow}
 use Rattle.mps_read.specs.Names.{is_among, with_name}
-use Rattle.mps_read.specs.Forms.{Form, Pair, FreeRow, KeptRow}
+use Rattle.mps_lines.specs.Forms.{Form, Pair, FreeRow, KeptRow}
 use Rattle.mps_read.specs.Sets.{first_given, pairs_in, number_of, number_or_zero}
-use Rattle.mps_read.specs.declared.section.ValueKind.TheVariants.{Side, Range}
+use Rattle.mps_lines.specs.declared.section.ValueKind.TheVariants.{Side, Range}
 
 -- the names of all rows, with those of the objective and of dropped rows
 abbrev pub row_names_of : List Form → List (List ℕ)

@@ -6,9 +6,9 @@ use Rattle.std.specs.Str.{bytes_eq}
 use Rattle.ip_core.specs.Decimals.{Number}
 use Rattle.mps_model.specs.Numbers.{zero_decimal}
 use Rattle.mps_read.specs.Numerals.{decimal_of}
-use Rattle.mps_read.specs.Forms.{Form, Pair, Values, BoundLine}
-use Rattle.mps_read.specs.declared.section.ValueKind.{ValueKind}
-use Rattle.mps_read.specs.declared.section.ValueKind.TheVariants.{Side, Range}
+use Rattle.mps_lines.specs.Forms.{Form, Pair, Values, BoundLine}
+use Rattle.mps_lines.specs.declared.section.ValueKind.{ValueKind}
+use Rattle.mps_lines.specs.declared.section.ValueKind.TheVariants.{Side, Range}
 
 -- what is there already, or else the new one
 abbrev pub first_given : Option (List ℕ) → List ℕ → Option (List ℕ)

@@ -3,8 +3,7 @@ use Rattle.std.specs.Prelude.{ℕ, ◌+◌, true, List, [], ◌∷◌, Option, S
 use Rattle.ip_core.specs.Decimals.{Number}
 use Rattle.mps_read.specs.Names.{is_among, place_among, extended, with_name}
 use Rattle.mps_read.specs.Numerals.{decimal_of}
-use Rattle.mps_read.specs.Forms.{Form, Pair, Blank, Spoilt, Head, UnknownHead, Stray, Miscounted, SenseLine, FreeRow, KeptRow, UntypedRow, Marker, UnknownMarker, Entries, Values, BoundLine, UntypedBound, form_of, is_end}
-use Rattle.mps_read.specs.Headers.{sense_named}
+use Rattle.mps_lines.specs.Forms.{Form, Pair, Blank, Spoilt, Head, UnknownHead, Stray, Miscounted, SenseLine, FreeRow, KeptRow, UntypedRow, Marker, UnknownMarker, Entries, Values, BoundLine, UntypedBound, form_of, is_end, sense_named}
 use Rattle.mps_read.specs.Sets.{first_given, is_used}
 use Rattle.mps_model.specs.Prints.{fresh_row}
 use Rattle.mps_read.specs.DraftRows.{fresh, free_place, with_marked, with_value, with_constant, place_of_pair}
@@ -14,11 +13,11 @@ use Rattle.mps_read.specs.Readings.{Reading, Read, RefusedAt, outcome, is_maximi
 use Rattle.mps_read.specs.declared.error.MpsKind.TheVariants.{NoEndata}
 use Rattle.mps_model.specs.declared.model.RowKind.{RowKind}
 use Rattle.mps_model.specs.declared.model.MpsModel.{MpsModel}
-use Rattle.mps_read.specs.declared.section.Section.{Section}
-use Rattle.mps_read.specs.declared.section.Section.TheVariants.{Name, Objsense, Rows, Columns, Rhs, Ranges, Bounds, Endata}
-use Rattle.mps_read.specs.declared.section.ValueKind.{ValueKind}
-use Rattle.mps_read.specs.declared.section.ValueKind.TheVariants.{Side, Range}
-use Rattle.mps_read.specs.declared.section.BoundKind.{BoundKind}
+use Rattle.mps_lines.specs.declared.section.Section.{Section}
+use Rattle.mps_lines.specs.declared.section.Section.TheVariants.{Name, Objsense, Rows, Columns, Rhs, Ranges, Bounds, Endata}
+use Rattle.mps_lines.specs.declared.section.ValueKind.{ValueKind}
+use Rattle.mps_lines.specs.declared.section.ValueKind.TheVariants.{Side, Range}
+use Rattle.mps_lines.specs.declared.section.BoundKind.{BoundKind}
 use Rattle.mps_read.specs.declared.draft.Draft.{Draft}
 use Rattle.mps_read.specs.declared.draft.SetUse.{SetUse}
 use Rattle.mps_read.specs.declared.draft.RowPlace.{RowPlace}

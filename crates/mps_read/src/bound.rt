@@ -1,22 +1,21 @@
 ghost use Rattle.std.specs.Prelude.{◌≡◌, ◌≤◌, ◌<◌, ◌^◌, ◌&&◌, not, true, false, length, Some, None, IfOk, OnOk, MatchOption};
 ghost use Rattle.mps_read.specs.Names.{is_long as is_long_name};
-ghost use Rattle.mps_read.specs.Forms.{bounds_form, BoundLine, has_numeral as is_with_numeral};
+ghost use Rattle.mps_lines.specs.Forms.{bounds_form, BoundLine, has_numeral as is_with_numeral};
 ghost use Rattle.mps_read.specs.Sets.{is_used as is_used_set};
 ghost use Rattle.mps_read.specs.Numerals.{is_numeral, decimal_of};
 ghost use Rattle.mps_read.specs.Columns.{low_limit as low_limit_of, high_limit as high_limit_of};
 ghost use Rattle.mps_read.specs.DraftColumns.{with_bound};
-ghost use Rattle.mps_read.specs.Seen.{seen, AreFields, IsField};
+ghost use Rattle.mps_lines.specs.Seen.{seen, AreFields, IsField};
 ghost use Rattle.mps_read.specs.Drafts.{IsDraft};
 ghost use Rattle.mps_read.specs.Judges.{Judges};
 
 use crate::draft::{Draft, Judgement};
 use crate::error::MpsKind;
-use crate::line::Fields;
 use crate::name::is_long;
 use crate::numeral::{is_infinite, one};
-use crate::section::{BoundKind, bound_named, has_numeral};
 use crate::value::{is_used, name_set};
 use ip_core::{Decimal, List, OutOfMemory};
+use mps_lines::{BoundKind, Fields, bound_named, has_numeral};
 use mps_model::{Limit, MpsCol};
 use std::alloc::Global;
 

@@ -4,8 +4,8 @@ ghost use Rattle.mps_read.specs.Drafts.{first_draft, no_set};
 use crate::error::MpsKind;
 use crate::name::empty_name;
 use crate::names::Names;
-use crate::section::Section;
 use ip_core::{Decimal, List, Name};
+use mps_lines::Section;
 use mps_model::{MpsCol, MpsRow};
 use std::alloc::Global;
 

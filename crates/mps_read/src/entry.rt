@@ -1,21 +1,20 @@
 ghost use Rattle.std.specs.Prelude.{◌≡◌, ◌≤◌, ◌<◌, ◌^◌, ◌+◌, ◌==◌, ◌&&◌, not, true, false, length, Option, Some, None, IfOk, OnOk};
 ghost use Rattle.std.specs.List.{list_any};
 ghost use Rattle.mps_read.specs.Names.{is_among, place_among, is_long as is_long_name};
-ghost use Rattle.mps_read.specs.Forms.{columns_form, marker_form, Entries};
+ghost use Rattle.mps_lines.specs.Forms.{columns_form, marker_form, Entries};
 ghost use Rattle.mps_read.specs.DraftKinds.{draft_kind, has_mark};
-ghost use Rattle.mps_read.specs.Seen.{seen, seen_pair, AreFields, IsField, IsPair};
+ghost use Rattle.mps_lines.specs.Seen.{seen, seen_pair, AreFields, IsField, IsPair};
 ghost use Rattle.mps_read.specs.Steps.{after_entry, after_column};
 ghost use Rattle.mps_read.specs.Drafts.{IsDraft, IsPlaced};
 ghost use Rattle.mps_read.specs.Judges.{Judges};
 
 use crate::draft::{Draft, Judgement, Mark, RowPlace};
 use crate::error::MpsKind;
-use crate::line::{FieldPair, Fields};
 use crate::name::{is_long, name_of};
 use crate::numeral::{is_zero, read_numeral};
 use crate::pair::{FoundRow, find_row, is_same_row};
-use crate::section::is_word;
 use ip_core::{Decimal, List, OutOfMemory};
+use mps_lines::{FieldPair, Fields, is_word};
 use mps_model::{Limit, MpsCol, MpsEntry};
 use std::alloc::Global;
 

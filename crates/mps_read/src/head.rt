@@ -1,18 +1,32 @@
 ghost use Rattle.std.specs.Prelude.{◌≡◌, [], true, false, IfOk, OnOk, IfNone};
-ghost use Rattle.mps_read.specs.Forms.{head_form, sense_form, Head};
+ghost use Rattle.mps_lines.specs.Forms.{head_form, sense_form, Head};
 ghost use Rattle.mps_read.specs.DraftKinds.{draft_kind, has_begun as has_begun_of};
-ghost use Rattle.mps_read.specs.Kinds.{is_in_order as is_in_order_of, is_objsense as is_objsense_of, lacks_objective as lacks_objective_of, is_long_title as is_long_title_of, has_bad_sense as has_bad_sense_of};
-ghost use Rattle.mps_read.specs.Seen.{seen, AreFields, IsField};
+ghost use Rattle.mps_read.specs.Kinds.{is_in_order as is_in_order_of, rank_of, is_objsense as is_objsense_of, lacks_objective as lacks_objective_of, is_long_title as is_long_title_of, has_bad_sense as has_bad_sense_of};
+ghost use Rattle.mps_lines.specs.Seen.{seen, AreFields, IsField};
 ghost use Rattle.mps_read.specs.Steps.{after_head};
 ghost use Rattle.mps_read.specs.Judges.{Judges};
 
 use crate::draft::{Draft, Judgement};
 use crate::error::MpsKind;
-use crate::line::Fields;
 use crate::name::{is_long, name_of};
-use crate::section::{Section, is_last, rank, section_named, sense_named};
 use ip_core::OutOfMemory;
+use mps_lines::{Fields, Section, is_last, section_named, sense_named};
 use std::alloc::Global;
+
+/// How far a file is after a section, or before any.
+fn rank(section: Option<Section>) -> u32
+    ensures { result ≡ rank_of section }
+{
+    match section {
+        None => 0,
+        Some(Section::Name) => 1,
+        Some(Section::Objsense) => 2,
+        Some(Section::Rows) => 3,
+        Some(Section::Columns) => 4,
+        Some(Section::Rhs | Section::Ranges | Section::Bounds) => 5,
+        Some(Section::Endata) => 6,
+    }
+}
 
 /// Whether a section may stand next.
 fn is_in_order(draft: &Draft, section: Section) -> bool

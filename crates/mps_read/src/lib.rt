@@ -15,7 +15,6 @@ mod draft;
 mod entry;
 mod error;
 mod head;
-mod line;
 mod name;
 mod names;
 mod numeral;
@@ -23,7 +22,6 @@ mod pair;
 mod printer;
 mod reader;
 mod row_line;
-mod section;
 #[cfg(test)]
 mod tests;
 mod value;

@@ -2,10 +2,10 @@ ghost use Rattle.std.specs.Prelude.{◌≡◌, ◌≤◌, ◌<◌, ◌^◌, unsi
 ghost use Rattle.mps_model.specs.Numbers.{is_zero as is_zero_number, is_infinite as is_infinite_number, reaches_infinity};
 ghost use Rattle.mps_read.specs.Numerals.{is_numeral, decimal_of, one_decimal};
 ghost use Rattle.mps_read.specs.Kinds.{all_pairs, is_pair_numeral};
-ghost use Rattle.mps_read.specs.Seen.{IsField, IsPair, IsSecond, seen_pair, seen_second};
+ghost use Rattle.mps_lines.specs.Seen.{IsField, IsPair, IsSecond, seen_pair, seen_second};
 
-use crate::line::FieldPair;
 use ip_core::Decimal;
+use mps_lines::FieldPair;
 
 /// The decimal of a numeral, or None where the bytes aren't one.
 pub fn read_numeral(bytes: &[u8]) -> Option<Decimal>

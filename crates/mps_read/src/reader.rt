@@ -1,9 +1,9 @@
 ghost use Rattle.std.specs.Prelude.{◌≡◌, ◌≤◌, ◌<◌, ◌^◌, length, IfOk, MatchResult};
-ghost use Rattle.mps_read.specs.Forms.{form_of, data_form};
+ghost use Rattle.mps_lines.specs.Forms.{form_of, data_form};
 ghost use Rattle.mps_read.specs.Readings.{Reads, name_or_empty as name_or_empty_of};
 ghost use Rattle.mps_read.specs.Steps.{draft_model};
 ghost use Rattle.mps_read.specs.Outcomes.{IsOutcome, IsCause};
-ghost use Rattle.mps_read.specs.Seen.{seen, AreFields};
+ghost use Rattle.mps_lines.specs.Seen.{seen, AreFields};
 ghost use Rattle.mps_read.specs.Judges.{Judges};
 ghost use Rattle.mps_read.specs.Drafts.{IsDraft};
 ghost use Rattle.mps_model.specs.MpsModels.{IsMpsModel};
@@ -13,12 +13,11 @@ use crate::draft::{Draft, Judgement};
 use crate::entry::take_columns;
 use crate::error::{MpsError, MpsKind};
 use crate::head::{take_head, take_sense};
-use crate::line::{Fields, fields_of, is_comment, is_data, is_text, next_line};
 use crate::name::empty_name;
 use crate::row_line::take_rows;
-use crate::section::{Section, ValueKind};
 use crate::value::take_values;
 use ip_core::{Name, OutOfMemory};
+use mps_lines::{Fields, Section, ValueKind, fields_of, is_comment, is_data, is_text, next_line};
 use mps_model::MpsModel;
 use std::alloc::Global;
 

@@ -1,16 +1,15 @@
 ghost use Rattle.std.specs.Prelude.{◌≡◌, ◌<◌, ◌^◌, true, false, IfOk, IfNone};
 ghost use Rattle.mps_read.specs.Names.{is_among, is_long as is_long_name};
-ghost use Rattle.mps_read.specs.Forms.{rows_form, FreeRow, KeptRow, marker_word};
+ghost use Rattle.mps_lines.specs.Forms.{rows_form, FreeRow, KeptRow, marker_word};
 ghost use Rattle.mps_read.specs.DraftKinds.{draft_kind};
-ghost use Rattle.mps_read.specs.Seen.{seen, AreFields, IsField};
+ghost use Rattle.mps_lines.specs.Seen.{seen, AreFields, IsField};
 ghost use Rattle.mps_read.specs.Judges.{Judges};
 
 use crate::draft::{Draft, Judgement, RowPlace, RowState};
 use crate::error::MpsKind;
-use crate::line::Fields;
 use crate::name::{is_long, name_of};
-use crate::section::{is_word, row_kind_named};
 use ip_core::{Decimal, OutOfMemory};
+use mps_lines::{Fields, is_word, row_kind_named};
 use mps_model::{MpsRow, RowKind};
 use std::alloc::Global;
 

@@ -1,22 +1,21 @@
 ghost use Rattle.std.specs.Prelude.{◌≡◌, ◌≤◌, ◌<◌, ◌^◌, true, false, length, Some, None, IfOk, OnOk};
 ghost use Rattle.mps_read.specs.Names.{is_long as is_long_name};
-ghost use Rattle.mps_read.specs.Forms.{values_form, Values};
+ghost use Rattle.mps_lines.specs.Forms.{values_form, Values};
 ghost use Rattle.mps_read.specs.Sets.{is_used as is_used_set};
 ghost use Rattle.mps_read.specs.Steps.{with_set, after_value, with_values_set};
 ghost use Rattle.mps_read.specs.DraftKinds.{values_use, has_value as has_value_of};
 ghost use Rattle.mps_read.specs.DraftRows.{with_marked, with_value, with_constant};
-ghost use Rattle.mps_read.specs.Seen.{seen, seen_pair, AreFields, IsField, IsPair};
+ghost use Rattle.mps_lines.specs.Seen.{seen, seen_pair, AreFields, IsField, IsPair};
 ghost use Rattle.mps_read.specs.Drafts.{IsDraft, IsPlaced};
 ghost use Rattle.mps_read.specs.Judges.{Judges};
 
 use crate::draft::{Draft, Judgement, RowPlace, RowState, SetUse};
 use crate::error::MpsKind;
-use crate::line::{FieldPair, Fields};
 use crate::name::{is_long, name_of};
 use crate::numeral::read_numeral;
 use crate::pair::{FoundRow, find_row, is_same_row, is_tested};
-use crate::section::{ValueKind, is_word};
 use ip_core::{Decimal, OutOfMemory};
+use mps_lines::{FieldPair, Fields, ValueKind, is_word};
 use std::alloc::Global;
 
 /// Whether a line of this set is used: the first data line of a section names its set.

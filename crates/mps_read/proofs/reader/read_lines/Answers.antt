@@ -1,5 +1,5 @@
 use Rattle.std.proofs.Common.{◌∙◌, sym, subst, arith}
-use Rattle.mps_read.specs.Forms.{form_of}
+use Rattle.mps_lines.specs.Forms.{form_of}
 use Rattle.mps_read.specs.Drafts.{IsDraft}
 use Rattle.mps_read.proofs.Bridge.{begins}
 use Rattle.mps_read.proofs.Kept.{after_kept, after_few, first_kept}

@@ -1,5 +1,5 @@
 use Rattle.std.proofs.Common.{◌≡◌, ◌≤◌, ◌<◌, ◌+◌, length}
-use Rattle.mps_read.specs.Lines.{lines_of}
+use Rattle.mps_lines.specs.Lines.{lines_of}
 use Rattle.mps_read.specs.Readings.{reading}
 use Rattle.mps_read.specs.Steps.{run}
 use Rattle.mps_read.specs.Drafts.{IsDraft}

@@ -1,8 +1,8 @@
 ghost use Rattle.std.specs.Prelude.{◌≡◌, ◌<◌, ◌≤◌, ◌^◌, ◌==◌, ◌++◌, ◌∷◌, [], true, false, length, MatchOption};
 ghost use Rattle.std.specs.List.{list_all, list_any};
-ghost use Rattle.mps_read.specs.Lines.{lines_of, pieces, fields, words_of, has_none, is_comment as is_comment_line, is_data as is_data_line, is_separator as is_separator_byte, is_line_byte as is_byte_of_line, first_word as first_word_of};
-ghost use Rattle.mps_read.specs.Forms.{second_word as second_word_of};
-ghost use Rattle.mps_read.specs.Seen.{seen, AreFields, IsField};
+ghost use Rattle.mps_lines.specs.Lines.{lines_of, pieces, fields, words_of, has_none, is_comment as is_comment_line, is_data as is_data_line, is_separator as is_separator_byte, is_line_byte as is_byte_of_line, first_word as first_word_of};
+ghost use Rattle.mps_lines.specs.Forms.{second_word as second_word_of};
+ghost use Rattle.mps_lines.specs.Seen.{seen, AreFields, IsField};
 
 /// The fields of a line: up to five of them, and of six or more the first two.
 #[derive(Clone, Copy)]

@@ -1,11 +1,11 @@
 -- The fields of a line as values.
 use Rattle.std.specs.Prelude.{ℕ, ◌≡◌, ◌≤◌, ◌^◌, true, length, List, Option, Some, None}
 use Rattle.std.specs.List.{list_all}
-use Rattle.mps_read.specs.Forms.{Pair}
-use Rattle.mps_read.specs.Lines.{Words, Zero, One, Two, Three, Four, Five, Many, is_visible}
-use Rattle.mps_read.specs.declared.line.Fields.{Fields}
-use Rattle.mps_read.specs.declared.line.Fields.TheVariants.{Empty, Single, Double, Triple, Quadruple, Quintuple, More}
-use Rattle.mps_read.specs.declared.line.FieldPair.{FieldPair}
+use Rattle.mps_lines.specs.Forms.{Pair}
+use Rattle.mps_lines.specs.Lines.{Words, Zero, One, Two, Three, Four, Five, Many, is_visible}
+use Rattle.mps_lines.specs.declared.line.Fields.{Fields}
+use Rattle.mps_lines.specs.declared.line.Fields.TheVariants.{Empty, Single, Double, Triple, Quadruple, Quintuple, More}
+use Rattle.mps_lines.specs.declared.line.FieldPair.{FieldPair}
 
 -- the fields of a line
 abbrev pub seen : Fields → Words

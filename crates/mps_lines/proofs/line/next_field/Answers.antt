@@ -1,6 +1,6 @@
 use Rattle.std.proofs.Common.{◌∙◌, sym}
-use Rattle.mps_read.proofs.Cutting.{fields-filled, fields-empty, fields-last, fields-none}
-use Rattle.mps_read.proofs.line.next_field.Goals as goal
+use Rattle.mps_lines.proofs.Cutting.{fields-filled, fields-empty, fields-last, fields-none}
+use Rattle.mps_lines.proofs.line.next_field.Goals as goal
 
 pub returns-then-not-is_empty : goal.returns-then-not-is_empty
 returns-then-not-is_empty c = sym c.loop-piece.invariant ∙ fields-filled c.loop-piece.rest.now c.in-Some.piece.now c.in-Some.after.now c.in-Some.ensures.0 (sym c.if-not-is_empty.ensures)

@@ -1,9 +1,9 @@
 use Rattle.std.proofs.Common.{◌≡◌, ℕ, ◌<◌, ◌≤◌, true, false, ◌==◌, List, [], ◌∷◌, ◌++◌, refl, length, arith, ap, sym, ◌∙◌, ◌+◌, ◌-◌, take, drop, get_or}
 use Rattle.std.specs.List.{list_any}
 use Rattle.std.proofs.lemmas.List.{length-append, take-append-drop, drop_more, length-drop, take_rest, take_all}
-use Rattle.mps_read.specs.Lines.{lines_of, with_byte, pieces, fields, is_separator}
+use Rattle.mps_lines.specs.Lines.{lines_of, with_byte, pieces, fields, is_separator}
 use Rattle.std.proofs.lemmas.Bool.{true≢false}
-use Rattle.mps_read.proofs.Truths.{or_false}
+use Rattle.mps_lines.proofs.Truths.{or_false}
 
 -- a line up to a line feed stands before the lines of the rest
 pub lines-cut : (x rest : List ℕ) → list_any (λ b. b == 10) x ≡ false → lines_of (x ++ 10 ∷ rest) ≡ x ∷ lines_of rest

@@ -1,8 +1,6 @@
 ghost use Rattle.std.specs.Prelude.{◌≡◌, []};
 ghost use Rattle.std.specs.Str.{bytes_eq};
-ghost use Rattle.mps_read.specs.Forms.{section_named as section_of_name, bound_named as bound_of_name, row_kind_named as row_kind_of_name, has_numeral as is_with_numeral, is_end, Head};
-ghost use Rattle.mps_read.specs.Headers.{sense_named as sense_of_name};
-ghost use Rattle.mps_read.specs.Kinds.{rank_of};
+ghost use Rattle.mps_lines.specs.Forms.{section_named as section_of_name, bound_named as bound_of_name, row_kind_named as row_kind_of_name, has_numeral as is_with_numeral, sense_named as sense_of_name, is_end, Head};
 
 use mps_model::RowKind;
 
@@ -78,21 +76,6 @@ pub fn section_named(word: &[u8]) -> Option<Section>
         Some(Section::Endata)
     } else {
         None
-    }
-}
-
-/// How far a file is after a section, or before any.
-pub fn rank(section: Option<Section>) -> u32
-    ensures { result ≡ rank_of section }
-{
-    match section {
-        None => 0,
-        Some(Section::Name) => 1,
-        Some(Section::Objsense) => 2,
-        Some(Section::Rows) => 3,
-        Some(Section::Columns) => 4,
-        Some(Section::Rhs | Section::Ranges | Section::Bounds) => 5,
-        Some(Section::Endata) => 6,
     }
 }
 

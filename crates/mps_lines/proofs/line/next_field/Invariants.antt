@@ -1,6 +1,6 @@
 use Rattle.std.proofs.Common.{◌≡◌, length}
-use Rattle.mps_read.specs.Lines.{fields}
-use Rattle.mps_read.proofs.line.next_field.Given as goal
+use Rattle.mps_lines.specs.Lines.{fields}
+use Rattle.mps_lines.proofs.line.next_field.Given as goal
 
 abbrev pub invariant-loop-piece : goal.invariant-loop-piece
 invariant-loop-piece l = fields l.rest ≡ fields l.line

@@ -1,16 +1,16 @@
 -- What one line says.
-use Rattle.std.specs.Prelude.{ℕ, Bool, true, false, not, List, [], Option, Some, None, if◌then◌else◌, codes}
+use Rattle.std.specs.Prelude.{ℕ, Bool, true, false, not, List, [], Option, Some, None, if◌then◌else◌, codes, ◌||◌}
 use Rattle.std.specs.List.{list_all}
 use Rattle.std.specs.Str.{bytes_eq}
-use Rattle.mps_read.specs.Lines.{Words, Zero, One, Two, Three, Four, Five, Many, words_of, fields, has_none, first_word, is_comment, is_data, is_line_byte}
+use Rattle.mps_lines.specs.Lines.{Words, Zero, One, Two, Three, Four, Five, Many, words_of, fields, has_none, first_word, is_comment, is_data, is_line_byte}
 use Rattle.mps_model.specs.declared.model.RowKind.{RowKind}
 use Rattle.mps_model.specs.declared.model.RowKind.TheVariants.{Less, Greater, Equal}
-use Rattle.mps_read.specs.declared.section.Section.{Section}
-use Rattle.mps_read.specs.declared.section.Section.TheVariants.{Name, Objsense, Rows, Columns, Rhs, Ranges, Bounds, Endata}
-use Rattle.mps_read.specs.declared.section.ValueKind.{ValueKind}
-use Rattle.mps_read.specs.declared.section.ValueKind.TheVariants.{Side, Range}
-use Rattle.mps_read.specs.declared.section.BoundKind.{BoundKind}
-use Rattle.mps_read.specs.declared.section.BoundKind.TheVariants.{Lower, Upper, Fixed, IntegerLower, IntegerUpper, Free, NoLower, NoUpper, Binary}
+use Rattle.mps_lines.specs.declared.section.Section.{Section}
+use Rattle.mps_lines.specs.declared.section.Section.TheVariants.{Name, Objsense, Rows, Columns, Rhs, Ranges, Bounds, Endata}
+use Rattle.mps_lines.specs.declared.section.ValueKind.{ValueKind}
+use Rattle.mps_lines.specs.declared.section.ValueKind.TheVariants.{Side, Range}
+use Rattle.mps_lines.specs.declared.section.BoundKind.{BoundKind}
+use Rattle.mps_lines.specs.declared.section.BoundKind.TheVariants.{Lower, Upper, Fixed, IntegerLower, IntegerUpper, Free, NoLower, NoUpper, Binary}
 
 -- a row's name and a numeral, as they stand
 pub record Pair : Type 0 where
@@ -75,6 +75,13 @@ second_word (Many a b) = b
 -- a section line
 abbrev pub head_form : Words → Form
 head_form words = known_head (section_named (first_word words)) (second_word words)
+
+-- whether a word says to maximise or to minimise
+abbrev pub sense_named : List ℕ → Option Bool
+sense_named word =
+    if bytes_eq word (codes "MAX") || bytes_eq word (codes "MAXIMIZE") then Some true
+    else if bytes_eq word (codes "MIN") || bytes_eq word (codes "MINIMIZE") then Some false
+    else None
 
 -- the data line of the sense: one word
 abbrev pub sense_form : Words → Form
