@@ -37,14 +37,16 @@ pub fn ascend<P: Pulse>(
     requires ready { P.IsReady pulse.old }
     requires allowed { ascent_work model.now cuts.now bounds.now ≤ P.allowance pulse.old }
     ensures mults { IfOk result (λ a. a.mults ≡ (ascent model.now cuts.now bounds.now).mults) }
-    ensures bound { IfOk result (λ a. a.bound ≡ lagrangian_bound model.now cuts.now bounds.now a.mults) }
+    ensures bound { IfOk result (λ a. a.bound ≡
+        lagrangian_bound model.now cuts.now bounds.now a.mults) }
     ensures point { IfOk result (λ a. a.point ≡ bound_point model.now cuts.now bounds.now a.mults) }
     ensures work { IfOk result (λ a. a.work ≡ ascent_work model.now cuts.now bounds.now) }
     ensures multipliers { IfOk result (λ a. AreMultipliers model.now cuts.now a.mults) }
     ensures least { IfOk result (λ a. least_value model.now bounds.now ≤ℤ a.bound) }
     ensures limit { IfOk result (λ a. neg_ℤ (pos (2 ^ 50)) ≤ℤ a.bound) }
     ensures exact { IfOk result (λ a. P.allowance pulse.old ≡ P.allowance pulse.new + a.work) }
-    ensures told { P.allowance pulse.old ≤ P.allowance pulse.new + ascent_work model.now cuts.now bounds.now }
+    ensures told { P.allowance pulse.old ≤ P.allowance pulse.new + ascent_work model.now cuts.now
+        bounds.now }
     ensures lowered { P.allowance pulse.new ≤ P.allowance pulse.old }
     ensures rest { P.rest pulse.new ≡ P.rest pulse.old }
     ensures ready { P.IsReady pulse.new }

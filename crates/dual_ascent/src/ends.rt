@@ -37,7 +37,8 @@ pub fn end_activities(
     requires costs { length costs.now ≡ length model.now.cols }
     ensures long { IfOk result (λ a. length a ≡ length (all_rows model.now cuts.now)) }
     ensures each { IfOk result (λ a. (k : ℕ) → k < length (all_rows model.now cuts.now) →
-        int_at a k ≡ end_activity_of bounds.now (int_at costs.now) (row_of model.now cuts.now k).terms) }
+        int_at a k ≡ end_activity_of bounds.now (int_at costs.now)
+        (row_of model.now cuts.now k).terms) }
 {
     // The model's limits keep the activities small.
     let _limits = model.parts();

@@ -38,7 +38,8 @@ impl Reduced {
         requires cuts { AreCuts model.now cuts.now }
         requires within { IsWithinReach model.now.root bounds.now }
         ensures kept { IfOk result (λ v. IsKept model.now cuts.now bounds.now v) }
-        ensures mults { IfOk result (λ v. v.mults ≡ replicate (length (all_rows model.now cuts.now)) 0) }
+        ensures mults { IfOk result (λ v. v.mults ≡
+            replicate (length (all_rows model.now cuts.now)) 0) }
     {
         let rows = model.parts().rows.len() + cuts.len();
         let count = model.parts().cols.len();

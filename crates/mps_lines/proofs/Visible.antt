@@ -1,7 +1,7 @@
 use Rattle.std.proofs.Common.{◌≡◌, ℕ, Bool, true, false, ◌||◌, List, [], ◌∷◌, refl, filter, ◌≤◌, ◌^◌, suc, length, arith, if◌then◌else◌}
 use Rattle.std.specs.List.{list_all}
 use Rattle.mps_lines.specs.Lines.{with_byte, pieces, fields, is_separator, is_visible, is_line_byte, is_filled, words_of}
-use Rattle.mps_lines.specs.Seen.{IsField, AreFields}
+use Rattle.mps_lines.specs.FieldWords.{IsField, AreFields}
 use Rattle.mps_lines.proofs.Truths.{and_true}
 
 -- the fields of a line that may hold its bytes have visible bytes alone

@@ -1,3 +1,3 @@
 pub mod Lines
 pub mod Forms
-pub mod Seen
+pub mod FieldWords

@@ -2,7 +2,7 @@ ghost use Rattle.std.specs.Prelude.{◌≡◌, ◌<◌, ◌≤◌, ◌^◌, ◌=
 ghost use Rattle.std.specs.List.{list_all, list_any};
 ghost use Rattle.mps_lines.specs.Lines.{lines_of, pieces, fields, words_of, has_none, is_comment as is_comment_line, is_data as is_data_line, is_separator as is_separator_byte, is_line_byte as is_byte_of_line, first_word as first_word_of};
 ghost use Rattle.mps_lines.specs.Forms.{second_word as second_word_of};
-ghost use Rattle.mps_lines.specs.Seen.{seen, AreFields, IsField};
+ghost use Rattle.mps_lines.specs.FieldWords.{field_words, AreFields, IsField};
 
 /// The fields of a line: up to five of them, and of six or more the first two.
 #[derive(Clone, Copy)]
@@ -91,7 +91,7 @@ fn next_field(line: &[u8]) -> Option<(&[u8], &[u8])>
 
 /// What separators part.
 fn split_fields(line: &[u8]) -> Fields<'_>
-    ensures { seen result ≡ words_of (fields line.now) }
+    ensures { field_words result ≡ words_of (fields line.now) }
 {
     let Some((first, rest)) = next_field(line) else {
         return Fields::Empty;
@@ -118,8 +118,8 @@ fn split_fields(line: &[u8]) -> Fields<'_>
 pub fn fields_of(line: &[u8]) -> Fields<'_>
     requires bytes { list_all is_byte_of_line line.now ≡ true }
     requires short { length line.now ≤ 2 ^ 30 }
-    ensures value { seen result ≡ words_of (fields line.now) }
-    ensures fields { AreFields (seen result) }
+    ensures value { field_words result ≡ words_of (fields line.now) }
+    ensures fields { AreFields (field_words result) }
 {
     split_fields(line)
 }
@@ -161,7 +161,7 @@ pub fn is_text(line: &[u8]) -> bool
 impl<'a> Fields<'a> {
     /// Whether there is no field.
     pub fn is_empty(self) -> bool
-        ensures { result ≡ has_none (seen self.entry) }
+        ensures { result ≡ has_none (field_words self.entry) }
     {
         match self {
             Fields::Empty => true,
@@ -171,7 +171,7 @@ impl<'a> Fields<'a> {
 
     /// The first field, or the empty text.
     pub fn first(self) -> &'a [u8]
-        ensures { result.now ≡ first_word_of (seen self.entry) }
+        ensures { result.now ≡ first_word_of (field_words self.entry) }
     {
         match self {
             Fields::Empty => &[],
@@ -186,8 +186,8 @@ impl<'a> Fields<'a> {
 
     /// The second field, or the empty text.
     pub fn second(self) -> &'a [u8]
-        requires { AreFields (seen self) }
-        ensures value { result.now ≡ second_word_of (seen self.entry) }
+        requires { AreFields (field_words self) }
+        ensures value { result.now ≡ second_word_of (field_words self.entry) }
         ensures field { IsField result.now }
     {
         match self {

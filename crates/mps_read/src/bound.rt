@@ -5,7 +5,7 @@ ghost use Rattle.mps_read.specs.Sets.{is_used as is_used_set};
 ghost use Rattle.mps_read.specs.Numerals.{is_numeral, decimal_of};
 ghost use Rattle.mps_read.specs.Columns.{low_limit as low_limit_of, high_limit as high_limit_of};
 ghost use Rattle.mps_read.specs.DraftColumns.{with_bound};
-ghost use Rattle.mps_lines.specs.Seen.{seen, AreFields, IsField};
+ghost use Rattle.mps_lines.specs.FieldWords.{field_words, AreFields, IsField};
 ghost use Rattle.mps_read.specs.Drafts.{IsDraft};
 ghost use Rattle.mps_read.specs.Judges.{Judges};
 
@@ -155,8 +155,9 @@ pub fn take_bounds(
     fields: Fields<'_>,
 ) -> Result<Judgement, OutOfMemory>
     requires draft { IsDraft draft.old }
-    requires fields { AreFields (seen fields) }
-    ensures { IfOk result (λ j. Judges j draft.old (bounds_form (seen fields.entry)) draft.new) }
+    requires fields { AreFields (field_words fields) }
+    ensures { IfOk result (λ j. Judges j draft.old
+        (bounds_form (field_words fields.entry)) draft.new) }
 {
     let Some(kind) = bound_named(fields.first()) else {
         return Ok(Judgement::Refused(MpsKind::BoundType));

@@ -3,7 +3,7 @@ ghost use Rattle.std.specs.List.{list_any};
 ghost use Rattle.mps_read.specs.Names.{is_among, place_among, is_long as is_long_name};
 ghost use Rattle.mps_lines.specs.Forms.{columns_form, marker_form, Entries};
 ghost use Rattle.mps_read.specs.DraftKinds.{draft_kind, has_mark};
-ghost use Rattle.mps_lines.specs.Seen.{seen, seen_pair, AreFields, IsField, IsPair};
+ghost use Rattle.mps_lines.specs.FieldWords.{field_words, pair_words, AreFields, IsField, IsPair};
 ghost use Rattle.mps_read.specs.Steps.{after_entry, after_column};
 ghost use Rattle.mps_read.specs.Drafts.{IsDraft, IsPlaced};
 ghost use Rattle.mps_read.specs.Judges.{Judges};
@@ -133,7 +133,7 @@ fn take_entry(
     requires column { IsField column.now }
     requires first { IsPair first }
     ensures { IfOk result (λ j. Judges j draft.old
-        (Entries column.now (seen_pair first.entry) None) draft.new) }
+        (Entries column.now (pair_words first.entry) None) draft.new) }
 {
     let Some(value) = read_numeral(first.numeral) else {
         return Ok(Judgement::Refused(MpsKind::Numeral));
@@ -170,7 +170,7 @@ fn take_entries(
     requires first { IsPair first }
     requires second { IsPair second }
     ensures { IfOk result (λ j. Judges j draft.old
-        (Entries column.now (seen_pair first.entry) (Some (seen_pair second.entry))) draft.new) }
+        (Entries column.now (pair_words first.entry) (Some (pair_words second.entry))) draft.new) }
 {
     let (Some(value), Some(value2)) = (read_numeral(first.numeral), read_numeral(second.numeral))
     else {
@@ -221,8 +221,9 @@ pub fn take_columns(
 ) -> Result<Judgement, OutOfMemory>
     requires draft { IsDraft draft.old }
     requires few { length draft.old.column_names < 2 ^ 31 }
-    requires fields { AreFields (seen fields) }
-    ensures { IfOk result (λ j. Judges j draft.old (columns_form (seen fields.entry)) draft.new) }
+    requires fields { AreFields (field_words fields) }
+    ensures { IfOk result (λ j. Judges j draft.old
+        (columns_form (field_words fields.entry)) draft.new) }
 {
     match fields {
         Fields::Triple(column, row, numeral) => {

@@ -2,7 +2,7 @@ ghost use Rattle.std.specs.Prelude.{◌≡◌, [], true, false, IfOk, OnOk, IfNo
 ghost use Rattle.mps_lines.specs.Forms.{head_form, sense_form, Head};
 ghost use Rattle.mps_read.specs.DraftKinds.{draft_kind, has_begun as has_begun_of};
 ghost use Rattle.mps_read.specs.Kinds.{is_in_order as is_in_order_of, rank_of, is_objsense as is_objsense_of, lacks_objective as lacks_objective_of, is_long_title as is_long_title_of, has_bad_sense as has_bad_sense_of};
-ghost use Rattle.mps_lines.specs.Seen.{seen, AreFields, IsField};
+ghost use Rattle.mps_lines.specs.FieldWords.{field_words, AreFields, IsField};
 ghost use Rattle.mps_read.specs.Steps.{after_head};
 ghost use Rattle.mps_read.specs.Judges.{Judges};
 
@@ -135,8 +135,8 @@ pub fn take_head(
     draft: &mut Draft,
     fields: Fields<'_>,
 ) -> Result<Judgement, OutOfMemory>
-    requires { AreFields (seen fields) }
-    ensures { IfOk result (λ j. Judges j draft.old (head_form (seen fields.entry)) draft.new) }
+    requires { AreFields (field_words fields) }
+    ensures { IfOk result (λ j. Judges j draft.old (head_form (field_words fields.entry)) draft.new) }
 {
     let Some(section) = section_named(fields.first()) else {
         return Ok(Judgement::Refused(MpsKind::UnknownSection));
@@ -154,7 +154,7 @@ pub fn take_head(
 
 /// The data line of the sense.
 pub fn take_sense(draft: &mut Draft, fields: Fields<'_>) -> Judgement
-    ensures { Judges result draft.old (sense_form (seen fields.entry)) draft.new }
+    ensures { Judges result draft.old (sense_form (field_words fields.entry)) draft.new }
 {
     let Fields::Single(word) = fields else {
         return Judgement::Refused(MpsKind::FieldCount);

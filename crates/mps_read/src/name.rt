@@ -1,6 +1,6 @@
 ghost use Rattle.std.specs.Prelude.{◌≡◌, [], false, IfOk};
 ghost use Rattle.mps_read.specs.Names.{is_long as is_long_name};
-ghost use Rattle.mps_lines.specs.Seen.{IsField};
+ghost use Rattle.mps_lines.specs.FieldWords.{IsField};
 
 use ip_core::{MAX_NAME, Name, OutOfMemory, Text};
 use std::alloc::Global;

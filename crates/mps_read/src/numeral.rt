@@ -2,7 +2,7 @@ ghost use Rattle.std.specs.Prelude.{◌≡◌, ◌≤◌, ◌<◌, ◌^◌, unsi
 ghost use Rattle.mps_model.specs.Numbers.{is_zero as is_zero_number, is_infinite as is_infinite_number, reaches_infinity};
 ghost use Rattle.mps_read.specs.Numerals.{is_numeral, decimal_of, one_decimal};
 ghost use Rattle.mps_read.specs.Kinds.{all_pairs, is_pair_numeral};
-ghost use Rattle.mps_lines.specs.Seen.{IsField, IsPair, IsSecond, seen_pair, seen_second};
+ghost use Rattle.mps_lines.specs.FieldWords.{IsField, IsPair, IsSecond, pair_words, second_words};
 
 use ip_core::Decimal;
 use mps_lines::FieldPair;

@@ -3,7 +3,7 @@ ghost use Rattle.mps_lines.specs.Forms.{form_of, data_form};
 ghost use Rattle.mps_read.specs.Readings.{Reads, name_or_empty as name_or_empty_of};
 ghost use Rattle.mps_read.specs.Steps.{draft_model};
 ghost use Rattle.mps_read.specs.Outcomes.{IsOutcome, IsCause};
-ghost use Rattle.mps_lines.specs.Seen.{seen, AreFields};
+ghost use Rattle.mps_lines.specs.FieldWords.{field_words, AreFields};
 ghost use Rattle.mps_read.specs.Judges.{Judges};
 ghost use Rattle.mps_read.specs.Drafts.{IsDraft};
 ghost use Rattle.mps_model.specs.MpsModels.{IsMpsModel};
@@ -33,9 +33,9 @@ fn take_data(alloc: Global, draft: &mut Draft, fields: Fields<'_>) -> Result<Jud
     requires draft { IsDraft draft.old }
     requires few_rows { draft.old.kept < 2 ^ 31 }
     requires few_columns { length draft.old.column_names < 2 ^ 31 }
-    requires fields { AreFields (seen fields) }
+    requires fields { AreFields (field_words fields) }
     ensures { IfOk result (λ j. Judges j draft.old
-        (data_form draft.old.section draft.old.has_sense_line (seen fields.entry)) draft.new) }
+        (data_form draft.old.section draft.old.has_sense_line (field_words fields.entry)) draft.new) }
 {
     match draft.section {
         None | Some(Section::Name | Section::Endata) => {

@@ -2,7 +2,7 @@ ghost use Rattle.std.specs.Prelude.{◌≡◌, ◌<◌, ◌^◌, true, false, If
 ghost use Rattle.mps_read.specs.Names.{is_among, is_long as is_long_name};
 ghost use Rattle.mps_lines.specs.Forms.{rows_form, FreeRow, KeptRow, marker_word};
 ghost use Rattle.mps_read.specs.DraftKinds.{draft_kind};
-ghost use Rattle.mps_lines.specs.Seen.{seen, AreFields, IsField};
+ghost use Rattle.mps_lines.specs.FieldWords.{field_words, AreFields, IsField};
 ghost use Rattle.mps_read.specs.Judges.{Judges};
 
 use crate::draft::{Draft, Judgement, RowPlace, RowState};
@@ -93,8 +93,8 @@ pub fn take_rows(
     fields: Fields<'_>,
 ) -> Result<Judgement, OutOfMemory>
     requires few { draft.old.kept < 2 ^ 31 }
-    requires fields { AreFields (seen fields) }
-    ensures { IfOk result (λ j. Judges j draft.old (rows_form (seen fields.entry)) draft.new) }
+    requires fields { AreFields (field_words fields) }
+    ensures { IfOk result (λ j. Judges j draft.old (rows_form (field_words fields.entry)) draft.new) }
 {
     let Fields::Double(kind, name) = fields else {
         return Ok(Judgement::Refused(MpsKind::FieldCount));

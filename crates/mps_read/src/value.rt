@@ -5,7 +5,7 @@ ghost use Rattle.mps_read.specs.Sets.{is_used as is_used_set};
 ghost use Rattle.mps_read.specs.Steps.{with_set, after_value, with_values_set};
 ghost use Rattle.mps_read.specs.DraftKinds.{values_use, has_value as has_value_of};
 ghost use Rattle.mps_read.specs.DraftRows.{with_marked, with_value, with_constant};
-ghost use Rattle.mps_lines.specs.Seen.{seen, seen_pair, AreFields, IsField, IsPair};
+ghost use Rattle.mps_lines.specs.FieldWords.{field_words, pair_words, AreFields, IsField, IsPair};
 ghost use Rattle.mps_read.specs.Drafts.{IsDraft, IsPlaced};
 ghost use Rattle.mps_read.specs.Judges.{Judges};
 
@@ -143,7 +143,7 @@ fn take_value(
     requires first { IsPair first }
     requires used { is_used_set (values_use kind draft.old).set set.now ≡ true }
     ensures { IfOk result (λ j. Judges j draft.old
-        (Values kind set.now (seen_pair first.entry) None) draft.new) }
+        (Values kind set.now (pair_words first.entry) None) draft.new) }
 {
     let Some(value) = read_numeral(first.numeral) else {
         return Ok(Judgement::Refused(MpsKind::Numeral));
@@ -177,7 +177,7 @@ fn take_two_values(
     requires second { IsPair second }
     requires used { is_used_set (values_use kind draft.old).set set.now ≡ true }
     ensures { IfOk result (λ j. Judges j draft.old
-        (Values kind set.now (seen_pair first.entry) (Some (seen_pair second.entry))) draft.new) }
+        (Values kind set.now (pair_words first.entry) (Some (pair_words second.entry))) draft.new) }
 {
     let (Some(value), Some(value2)) = (read_numeral(first.numeral), read_numeral(second.numeral))
     else {
@@ -210,7 +210,7 @@ fn take_single(
     requires set { IsField set.now }
     requires first { IsPair first }
     ensures { IfOk result (λ j. Judges j draft.old
-        (Values kind set.now (seen_pair first.entry) None) draft.new) }
+        (Values kind set.now (pair_words first.entry) None) draft.new) }
 {
     if is_used_for(draft, kind, set) {
         return take_value(alloc, draft, kind, set, first);
@@ -235,7 +235,7 @@ fn take_double(
     requires first { IsPair first }
     requires second { IsPair second }
     ensures { IfOk result (λ j. Judges j draft.old
-        (Values kind set.now (seen_pair first.entry) (Some (seen_pair second.entry))) draft.new) }
+        (Values kind set.now (pair_words first.entry) (Some (pair_words second.entry))) draft.new) }
 {
     if is_used_for(draft, kind, set) {
         return take_two_values(alloc, draft, kind, set, first, second);
@@ -254,8 +254,9 @@ pub fn take_values(
     fields: Fields<'_>,
 ) -> Result<Judgement, OutOfMemory>
     requires draft { IsDraft draft.old }
-    requires fields { AreFields (seen fields) }
-    ensures { IfOk result (λ j. Judges j draft.old (values_form kind (seen fields.entry)) draft.new) }
+    requires fields { AreFields (field_words fields) }
+    ensures { IfOk result (λ j. Judges j draft.old
+        (values_form kind (field_words fields.entry)) draft.new) }
 {
     match fields {
         Fields::Double(row, numeral) => {

@@ -14,7 +14,8 @@ Stands m slot c None = Unit {0}
 Stands m slot c (Some s) = IsReady m slot c s.pending s.local
 
 -- the history meets a claim of each slot, and each slot stands at its claim
-pub record Agrees (m : ModelParts) (history : List KeyedEntry) (slots : List (Option (Standing Local))) : Type 0 where
+pub record Agrees (m : ModelParts) (history : List KeyedEntry)
+    (slots : List (Option (Standing Local))) : Type 0 where
   pub claims : ℕ → Claim
   pub meets : Meets m (seen_of m history) (is_known history) (length history) claims
   pub ready : (slot : ℕ) → Stands m slot (claims slot) (get_or slots slot None)

@@ -56,12 +56,15 @@ pub record IsOwed (v : View) (known : ℕ → Bool) (count slot : ℕ) (c : Clai
 
 -- a history whose view is true of the model and meets all claims; each node has a name of its own, which is known, and no two
 -- slots hold a node of one name
-pub record Meets (m : ModelParts) (v : View) (known : ℕ → Bool) (count : ℕ) (claims : ℕ → Claim) : Type 0 where
+pub record Meets (m : ModelParts) (v : View) (known : ℕ → Bool) (count : ℕ)
+    (claims : ℕ → Claim) : Type 0 where
   pub fits : FitsView m v
   pub sound : IsSound m v
-  pub names : (name : ℕ) → count_named name v.open_nodes + count_named name v.held_nodes ≤ one_if (known name)
+  pub names : (name : ℕ) → count_named name v.open_nodes + count_named name v.held_nodes ≤ one_if
+      (known name)
   pub owed : (slot : ℕ) → IsOwed v known count slot (claims slot)
-  pub apart : (i j : ℕ) (a b : Node) → (claims i).hold ≡ Some a → (claims j).hold ≡ Some b → a.name ≡ b.name → i ≡ j
+  pub apart : (i j : ℕ) (a b : Node) → (claims i).hold ≡ Some a → (claims j).hold ≡ Some b →
+      a.name ≡ b.name → i ≡ j
 
 -- the child that is kept
 abbrev pub kept_node : Node → ℕ → ℤ → ℕ → ℤ → Keep → Option Node
@@ -82,7 +85,12 @@ claim_after c (HeurStart node) = c
 claim_after c Done = c
 claim_after c (Found value point) = record c { cutoff = value }
 claim_after c (Cut derivation) = c
-claim_after c (Split node col at first keep bound) = record c { hold = kept_of c.hold col at first bound (keep_of keep); splits = next_ordinal c.splits }
+claim_after c (Split node col at first keep bound) =
+    record c {
+      hold = kept_of c.hold col at first bound (keep_of keep);
+      splits =
+          next_ordinal c.splits;
+    }
 claim_after c (Closed node) = record c { hold = None }
 claim_after c Halt = c
 
@@ -98,7 +106,8 @@ pub record IsDone (m : ModelParts) (c : Claim) (name : ℕ) : Type 0 where
   pub closed : IsClosed m c.cutoff holds.node.bounds
 
 -- the node that is held is split under the slot's next names
-pub record IsSplitNow (m : ModelParts) (slot : ℕ) (c : Claim) (name col : ℕ) (at : ℤ) (first keep : ℕ) : Type 0 where
+pub record IsSplitNow (m : ModelParts) (slot : ℕ) (c : Claim) (name col : ℕ) (at : ℤ)
+    (first keep : ℕ) : Type 0 where
   pub holds : Holds c name
   pub cut : IsCut m col at keep
   pub few_slots : slot < 64

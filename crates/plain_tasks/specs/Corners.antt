@@ -50,7 +50,8 @@ width_at s j = int_at s.highs j -ℤ int_at s.lows j
 -- the widest of the first n columns, and the first of several
 abbrev pub widest_below : Sides → ℕ → ℕ
 widest_below s zero = 0
-widest_below s (suc n) = if int_lt (width_at s (widest_below s n)) (width_at s n) then n else widest_below s n
+widest_below s (suc n) = if int_lt (width_at s (widest_below s n)) (width_at s n) then n
+    else widest_below s n
 
 -- the column at which a box is split
 abbrev pub widest : Sides → ℕ
@@ -62,7 +63,8 @@ middle s j = int_div_euclid (int_at s.lows j +ℤ int_at s.highs j) (pos 2)
 
 -- whether a point lies in a box
 abbrev pub is_inside_at : Sides → List ℤ → Bool
-is_inside_at s x = all_below (length x) (λ j. int_le (int_at s.lows j) (int_at x j) && int_le (int_at x j) (int_at s.highs j))
+is_inside_at s x = all_below (length x) (λ j. int_le (int_at s.lows j) (int_at x j)
+    && int_le (int_at x j) (int_at s.highs j))
 
 -- whether a point meets a row
 abbrev pub is_met_at : List ℤ → Row → Bool
@@ -70,4 +72,5 @@ is_met_at x row = int_le row.least (activity x row.terms)
 
 -- whether a point is feasible
 abbrev pub is_feasible_at : ModelParts → List ℤ → Bool
-is_feasible_at m x = nat_eq (length x) (length m.cols) && is_inside_at m.root x && list_all (is_met_at x) m.rows
+is_feasible_at m x = nat_eq (length x) (length m.cols) && is_inside_at m.root x
+    && list_all (is_met_at x) m.rows

@@ -28,7 +28,8 @@ pub record IsCut (m : ModelParts) (col : ℕ) (at : ℤ) (keep : ℕ) : Type 0 w
   pub keeps : keep ≤ 2
 
 -- a held node may be split at a column of the model, into children whose names are new
-pub record MaySplit (m : ModelParts) (history : List KeyedEntry) (node col : ℕ) (at : ℤ) (first keep : ℕ) : Type 0 where
+pub record MaySplit (m : ModelParts) (history : List KeyedEntry) (node col : ℕ) (at : ℤ)
+    (first keep : ℕ) : Type 0 where
   pub held : IsAmong (seen_of m history).held_nodes node
   pub cut : IsCut m col at keep
   pub room : first < 2 ^ 64 - 1

@@ -24,10 +24,12 @@ without name (x ∷ xs) = if x.name == name then xs else (x ∷ without name xs)
 
 -- the children of a node that is split in a column at a value
 abbrev pub low_node : Node → ℕ → ℤ → ℕ → ℤ → Node
-low_node node col at first bound = record { name = first; bound = bound; bounds = low_child node.bounds col at }
+low_node node col at first bound = record
+    { name = first; bound = bound; bounds = low_child node.bounds col at }
 
 abbrev pub high_node : Node → ℕ → ℤ → ℕ → ℤ → Node
-high_node node col at first bound = record { name = first + 1; bound = bound; bounds = high_child node.bounds col at }
+high_node node col at first bound = record
+    { name = first + 1; bound = bound; bounds = high_child node.bounds col at }
 
 -- no node has the name
 pub record IsUnnamed (nodes : List Node) (name : ℕ) : Type 0 where

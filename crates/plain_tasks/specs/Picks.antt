@@ -23,4 +23,5 @@ pub record TakesBest (v : View) (entries : List Entry) : Type 0 where
 
 -- at every history
 abbrev pub BestIsTaken : Type 0
-BestIsTaken = (m : ModelParts) (history : List KeyedEntry) (l : Local) (entries : List Entry) → (begun (seen_of m history) l).does ≡ Take entries → TakesBest (seen_of m history) entries
+BestIsTaken = (m : ModelParts) (history : List KeyedEntry) (l : Local) (entries : List Entry) →
+    (begun (seen_of m history) l).does ≡ Take entries → TakesBest (seen_of m history) entries

@@ -29,7 +29,11 @@ task_on v node = record { node = node.name; bounds = node.bounds; cutoff = v.cut
 -- the best open node is taken, and where nothing is open the slot waits
 abbrev pub taking : View → Local → List Node → AfterBegin Local
 taking v l [] = record { does = Idle; local = l }
-taking v l (node ∷ others) = record { does = Take (Start node.name ∷ []); local = record l { task = Some (task_on v node) } }
+taking v l (node ∷ others) = record {
+  does = Take (Start node.name ∷ []);
+  local =
+      record l { task = Some (task_on v node) };
+}
 
 -- what a slot between tasks does: it is over where a Halt stands, or where nothing is open or held
 abbrev pub begun : View → Local → AfterBegin Local
@@ -45,7 +49,8 @@ worked m l outcome = record {
 -- a chunk of the slot's task; without a task nothing happens
 abbrev pub chunk_of : ModelParts → Local → Option Task → AfterChunk Local
 chunk_of m l None = worked m l (record { entries = []; task = None; splits = l.splits })
-chunk_of m l (Some task) = worked m l (node_chunk m (record { slot = l.slot; splits = l.splits }) task)
+chunk_of m l (Some task) = worked m l (node_chunk m
+    (record { slot = l.slot; splits = l.splits }) task)
 
 -- the definitions of the plain search
 abbrev pub rules : ModelParts → Rules View Local

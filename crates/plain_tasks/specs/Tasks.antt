@@ -26,7 +26,12 @@ child_name slot ordinal = slot * 2 ^ 40 + 4 * ordinal
 
 -- the node is done with, and the task ends
 abbrev pub closing : List Entry → ℕ → ℕ → Outcome
-closing found node splits = record { entries = found ++ Closed node ∷ [] ++ Done ∷ []; task = None; splits = splits }
+closing found node splits = record {
+  entries = found ++ Closed node ∷ [] ++ Done ∷ [];
+  task =
+      None;
+  splits = splits;
+}
 
 -- a task ends with its eighth node; before that it goes on with the child that holds the point
 abbrev pub kept_child : ℕ → ℤ → ℤ → Keep
@@ -34,8 +39,22 @@ kept_child nodes value at = if nodes == 8 then Neither else (if int_le value at 
 
 -- the task on the child that is kept
 abbrev pub task_after : Task → ℕ → ℤ → ℕ → ℤ → Keep → Option Task
-task_after task col at first cutoff Low = Some (record { node = first; bounds = low_child task.bounds col at; cutoff = cutoff; nodes = task.nodes + 1 })
-task_after task col at first cutoff High = Some (record { node = first + 1; bounds = high_child task.bounds col at; cutoff = cutoff; nodes = task.nodes + 1 })
+task_after task col at first cutoff Low =
+    Some (record {
+      node = first;
+      bounds = low_child task.bounds col at;
+      cutoff = cutoff;
+      nodes =
+          task.nodes + 1;
+    })
+task_after task col at first cutoff High =
+    Some (record {
+      node = first + 1;
+      bounds = high_child task.bounds col at;
+      cutoff =
+          cutoff;
+      nodes = task.nodes + 1;
+    })
 task_after task col at first cutoff Neither = None
 
 -- a task that keeps no child has ended
@@ -61,13 +80,15 @@ after_corner task worker bound point cutoff found =
     let at = middle task.bounds col in
     if int_le cutoff bound
     then closing found task.node worker.splits
-    else splitting found task worker bound cutoff col at (kept_child task.nodes (int_at point col) at)
+    else splitting found task worker bound cutoff col at
+    (kept_child task.nodes (int_at point col) at)
 
 -- the corner is found where the bound is below the cutoff and it is feasible
 abbrev pub on_corner : ModelParts → Task → Worker → ℤ → List ℤ → Bool → Outcome
 on_corner m task worker bound point found =
     if found
-    then after_corner task worker bound point (value_at m point) (Found (value_at m point) point ∷ [])
+    then after_corner task worker bound point (value_at m point)
+    (Found (value_at m point) point ∷ [])
     else after_corner task worker bound point task.cutoff []
 
 -- one chunk of a task, on its node

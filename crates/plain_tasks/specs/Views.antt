@@ -30,19 +30,30 @@ fresh_view m = record {
 -- a node goes from open to held
 abbrev pub held_now : View → ℕ → Option Node → View
 held_now v name None = record v { open_nodes = without name v.open_nodes }
-held_now v name (Some node) = record v { open_nodes = without name v.open_nodes; held_nodes = node ∷ v.held_nodes }
+held_now v name (Some node) = record v {
+  open_nodes = without name v.open_nodes;
+  held_nodes =
+      node ∷ v.held_nodes;
+}
 
 -- the children of a node come in: one of them is held and the other open, or both are open
 abbrev pub with_children : View → Node → Node → Keep → View
-with_children v low high Low = record v { open_nodes = insert_open high v.open_nodes; held_nodes = low ∷ v.held_nodes }
-with_children v low high High = record v { open_nodes = insert_open low v.open_nodes; held_nodes = high ∷ v.held_nodes }
-with_children v low high Neither = record v { open_nodes = insert_open high (insert_open low v.open_nodes) }
+with_children v low high Low = record v {
+  open_nodes = insert_open high v.open_nodes;
+  held_nodes =
+      low ∷ v.held_nodes;
+}
+with_children v low high High = record v
+    { open_nodes = insert_open low v.open_nodes; held_nodes = high ∷ v.held_nodes }
+with_children v low high Neither = record v
+    { open_nodes = insert_open high (insert_open low v.open_nodes) }
 
 -- a held node gives way to its children
 abbrev pub parted_now : View → ℕ → ℕ → ℤ → ℕ → Keep → ℤ → Option Node → View
 parted_now v name col at first keep bound None = record v { held_nodes = without name v.held_nodes }
 parted_now v name col at first keep bound (Some node) =
-    with_children (record v { held_nodes = without name v.held_nodes }) (low_node node col at first bound) (high_node node col at first bound) keep
+    with_children (record v { held_nodes = without name v.held_nodes })
+    (low_node node col at first bound) (high_node node col at first bound) keep
 
 -- whether a value is below that of the best point, or there is none
 abbrev pub is_better : Option Best → ℤ → Bool
@@ -51,7 +62,8 @@ is_better (Some best) value = int_lt value best.value
 
 -- the first found point of least value
 abbrev pub better : Option Best → ℤ → List ℤ → Option Best
-better best value point = if is_better best value then Some (record { value = value; point = point }) else best
+better best value point = if is_better best value
+    then Some (record { value = value; point = point }) else best
 
 -- the view after one more entry
 abbrev pub seen : View → Entry → View
@@ -59,9 +71,14 @@ seen v (Start node) = held_now v node (first_named node v.open_nodes)
 seen v CutStart = v
 seen v (HeurStart node) = v
 seen v Done = v
-seen v (Found value point) = record v { cutoff = int_min v.cutoff value; best = better v.best value point }
+seen v (Found value point) = record v {
+  cutoff = int_min v.cutoff value;
+  best =
+      better v.best value point;
+}
 seen v (Cut derivation) = v
-seen v (Split node col at first keep bound) = parted_now v node col at first (keep_of keep) bound (first_named node v.held_nodes)
+seen v (Split node col at first keep bound) =
+    parted_now v node col at first (keep_of keep) bound (first_named node v.held_nodes)
 seen v (Closed node) = record v { held_nodes = without node v.held_nodes }
 seen v Halt = record v { halted = true }
 

@@ -28,7 +28,8 @@ pub fn reduce(model: &Model, cuts: &[Row], mults: &[u64], costs: &mut [i128])
 /// Writes 1,024 times each cost.
 fn scale(costs: &[i64], scaled: &mut [i128])
     requires { length costs.now ≤ length scaled.old }
-    ensures { (j : ℕ) → j < length costs.now → int_at scaled.new j ≡ pos 1024 *ℤ int_at costs.now j }
+    ensures { (j : ℕ) → j < length costs.now →
+        int_at scaled.new j ≡ pos 1024 *ℤ int_at costs.now j }
 {
     for j in 0..costs.len() {
         scaled[j] = SCALE * i128::from(costs[j]);
@@ -115,7 +116,8 @@ fn weighted(mult: u64, number: i64) -> i128
 pub fn shares(costs: &[i128], bounds: &Bounds) -> i128
     requires columns { length bounds.now.lows ≤ length costs.now }
     requires narrow { shares_width bounds.now costs.now ≤ 2 ^ 123 }
-    ensures value { result ≡ int_sum_below (length bounds.now.lows) (λ j. share_of bounds.now (int_at costs.now j) j) }
+    ensures value { result ≡ int_sum_below (length bounds.now.lows)
+        (λ j. share_of bounds.now (int_at costs.now j) j) }
     ensures small { unsigned_abs result ≤ shares_width bounds.now costs.now }
 {
     let mut sum = 0;

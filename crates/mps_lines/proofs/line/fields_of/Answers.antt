@@ -1,5 +1,5 @@
 use Rattle.std.proofs.Common.{sym, subst}
-use Rattle.mps_lines.specs.Seen.{AreFields}
+use Rattle.mps_lines.specs.FieldWords.{AreFields}
 use Rattle.mps_lines.proofs.Visible.{line-fields}
 use Rattle.mps_lines.proofs.line.fields_of.Goals as goal
 

@@ -8,23 +8,23 @@ use Rattle.mps_lines.specs.declared.line.Fields.TheVariants.{Empty, Single, Doub
 use Rattle.mps_lines.specs.declared.line.FieldPair.{FieldPair}
 
 -- the fields of a line
-abbrev pub seen : Fields → Words
-seen Empty = Zero
-seen (Single a) = One a.now
-seen (Double a b) = Two a.now b.now
-seen (Triple a b c) = Three a.now b.now c.now
-seen (Quadruple a b c d) = Four a.now b.now c.now d.now
-seen (Quintuple a b c d e) = Five a.now b.now c.now d.now e.now
-seen (More a b) = Many a.now b.now
+abbrev pub field_words : Fields → Words
+field_words Empty = Zero
+field_words (Single a) = One a.now
+field_words (Double a b) = Two a.now b.now
+field_words (Triple a b c) = Three a.now b.now c.now
+field_words (Quadruple a b c d) = Four a.now b.now c.now d.now
+field_words (Quintuple a b c d e) = Five a.now b.now c.now d.now e.now
+field_words (More a b) = Many a.now b.now
 
 -- a pair of fields
-abbrev pub seen_pair : FieldPair → Pair
-seen_pair p = record { row = p.row.now; numeral = p.numeral.now }
+abbrev pub pair_words : FieldPair → Pair
+pair_words p = record { row = p.row.now; numeral = p.numeral.now }
 
 -- a second pair, if there is one
-abbrev pub seen_second : Option FieldPair → Option Pair
-seen_second None = None
-seen_second (Some p) = Some (seen_pair p)
+abbrev pub second_words : Option FieldPair → Option Pair
+second_words None = None
+second_words (Some p) = Some (pair_words p)
 
 -- a field has visible bytes alone, and no more than a text may have
 pub record IsField (field : List ℕ) : Type 0 where
