@@ -1,4 +1,3 @@
 pub mod Examples
 pub mod Running
-pub mod SmallModels
 pub mod TrueAnswers

@@ -12,7 +12,8 @@ objective_of m value = if m.maximise then neg_ℤ (value +ℤ m.constant) else (
 
 -- it is printed with the decimals of the model
 abbrev pub objective_line : ModelParts → ℤ → List ℕ
-objective_line m value = codes "objective " ++ decimal_text (objective_of m value) m.decimals ++ codes "\n"
+objective_line m value = codes "objective " ++ decimal_text
+    (objective_of m value) m.decimals ++ codes "\n"
 
 -- the line of a column: its name, ` = ` and its value
 abbrev pub column_line : List ℕ → ℤ → List ℕ

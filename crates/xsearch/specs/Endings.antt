@@ -1,16 +1,15 @@
 use Rattle.std.specs.Prelude.{ℕ, ◌≡◌, List, Result, Ok, Err}
 use Rattle.mps_read.specs.KindNumbers.{kind_number}
 use Rattle.width_admit.specs.KindNumbers.{kind_of, index_of}
-use Rattle.xsearch_words.specs.Faults.{HasRisen}
-use Rattle.xsearch_words.specs.Sink.{GrowsBy, GrowsByFront}
+use Rattle.xsearch_words.specs.Faults.{HasRisen, next_count}
+use Rattle.xsearch_words.specs.Sink.{GrowsBy, GrowsByFront, SinkState}
 use Rattle.xsearch.specs.Refusals.{words_refusal, length_refusal, mps_refusal, model_refusal}
-use Rattle.xsearch.specs.Shelves.{SinkState}
 use Rattle.plain_tasks.specs.declared.answer.Status.{Status}
 use Rattle.plain_tasks.specs.declared.answer.Status.TheVariants as search
 use Rattle.xsearch.specs.declared.outcome.Outcome.{Outcome}
 use Rattle.xsearch.specs.declared.outcome.Outcome.TheVariants.{Answered, Printed}
 use Rattle.xsearch.specs.declared.outcome.Failure.{Failure}
-use Rattle.xsearch.specs.declared.outcome.Failure.TheVariants.{Words, Length, Mps, Model, Unread, Memory}
+use Rattle.xsearch.specs.declared.outcome.Failure.TheVariants.{Words, Length, Mps, Model, ReadFailed, Memory}
 use Rattle.xsearch.specs.declared.status.ExitStatus.{ExitStatus}
 use Rattle.xsearch.specs.declared.status.ExitStatus.TheVariants.{Done, WorkLimit, StoreLimit, RefusedWords, RefusedInput, ShelfFailed, SinkFailed, NoMemory}
 
@@ -25,17 +24,37 @@ code_of ShelfFailed = 6
 code_of SinkFailed = 7
 code_of NoMemory = 8
 
+-- one put, by which the text went out whole
+pub record IsWhole (old new : SinkState) (text : List ℕ) (meant status : ExitStatus) : Type 0 where
+  pub exit : status ≡ meant
+  pub grows : GrowsBy old.out new.out text
+  pub faults : new.faults ≡ old.faults
+  pub calls : new.calls ≡ next_count old.calls
+
+-- one put, which failed, and a front of the text went out
+pub record IsBroken (old new : SinkState) (text : List ℕ) (status : ExitStatus) : Type 0 where
+  pub exit : status ≡ SinkFailed
+  pub risen : HasRisen old.faults new.faults
+  pub front : GrowsByFront old.out new.out text
+  pub calls : new.calls ≡ next_count old.calls
+
+-- there was no memory for the text or its put, and nothing went out
+pub record IsUnput (old new : SinkState) (status : ExitStatus) : Type 0 where
+  pub exit : status ≡ NoMemory
+  pub nothing : new.out ≡ old.out
+  pub faults : new.faults ≡ old.faults
+
 -- One put of a text, which ends a run with `meant` where it succeeds: the text went out whole; or the put failed and a front
 -- of the text went out; or there was no memory and nothing went out.
 pub data IsPut (old new : SinkState) (text : List ℕ) (meant status : ExitStatus) : Type 0 where
-  Whole : status ≡ meant → GrowsBy old.out new.out text → IsPut old new text meant status
-  Broken : status ≡ SinkFailed → HasRisen old.faults new.faults → GrowsByFront old.out new.out text → IsPut old new text meant status
-  Starved : status ≡ NoMemory → new.out ≡ old.out → IsPut old new text meant status
+  Whole : IsWhole old new text meant status → IsPut old new text meant status
+  Broken : IsBroken old new text status → IsPut old new text meant status
+  Unput : IsUnput old new status → IsPut old new text meant status
 
--- nothing went out, and the run ended so
+-- no put was made, and the run ended so
 pub record IsSilent (old new : SinkState) (meant status : ExitStatus) : Type 0 where
   pub exit : status ≡ meant
-  pub nothing : new.out ≡ old.out
+  pub unused : new ≡ old
 
 -- an answer ends a run with status 0, and where a limit ended the search with 3 or 4: that of work or that of the store
 abbrev pub exit_of : Status → ExitStatus
@@ -46,11 +65,14 @@ exit_of search.WorkLimit = WorkLimit
 
 -- how a run ends, by what was found
 abbrev pub EndsAs : Result Outcome Failure → SinkState → SinkState → ExitStatus → Type 0
-EndsAs (Ok (Answered answer)) old new status = IsPut old new answer.text (exit_of answer.status) status
+EndsAs (Ok (Answered answer)) old new status =
+    IsPut old new answer.text (exit_of answer.status) status
 EndsAs (Ok (Printed text)) old new status = IsPut old new text Done status
 EndsAs (Err Words) old new status = IsPut old new words_refusal RefusedWords status
 EndsAs (Err Length) old new status = IsPut old new length_refusal RefusedInput status
-EndsAs (Err (Mps line kind)) old new status = IsPut old new (mps_refusal line (kind_number kind)) RefusedInput status
-EndsAs (Err (Model reason)) old new status = IsPut old new (model_refusal (kind_of reason) (index_of reason)) RefusedInput status
-EndsAs (Err Unread) old new status = IsSilent old new ShelfFailed status
+EndsAs (Err (Mps line kind)) old new status =
+    IsPut old new (mps_refusal line (kind_number kind)) RefusedInput status
+EndsAs (Err (Model reason)) old new status =
+    IsPut old new (model_refusal (kind_of reason) (index_of reason)) RefusedInput status
+EndsAs (Err ReadFailed) old new status = IsSilent old new ShelfFailed status
 EndsAs (Err Memory) old new status = IsSilent old new NoMemory status

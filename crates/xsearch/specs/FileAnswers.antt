@@ -30,9 +30,11 @@ IsTrueStatusOfFile mps upper WorkLimit best = IsSolutionFound mps upper best
 -- of minus the decimals, and that of the file in units of 10^-18.
 abbrev pub IsFileObjective : MpsModel → ModelParts → Option Best → Type 0
 IsFileObjective mps m None = Unit {0}
-IsFileObjective mps m (Some best) = (file_objective mps best.point *ℤ pos (10 ^ m.decimals)) ≡ (objective_of m best.value *ℤ pos (10 ^ 18))
+IsFileObjective mps m (Some best) = (file_objective mps best.point *ℤ pos (10 ^ m.decimals)) ≡
+    (objective_of m best.value *ℤ pos (10 ^ 18))
 
 -- the answer of a model, which a file's model is admitted as, is true of the file's model
-pub record IsTrueOfFile (mps : MpsModel) (upper : Option ℕ) (m : ModelParts) (answer : Answer) : Type 0 where
+pub record IsTrueOfFile (mps : MpsModel) (upper : Option ℕ) (m : ModelParts)
+    (answer : Answer) : Type 0 where
   pub told : IsTrueStatusOfFile mps upper answer.status answer.best
   pub objective : IsFileObjective mps m answer.best

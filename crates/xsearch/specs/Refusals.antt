@@ -12,8 +12,10 @@ length_refusal = codes "refused length\n"
 
 -- a line of a model file isn't allowed, by the number of the line and of the kind
 abbrev pub mps_refusal : ℕ → ℕ → List ℕ
-mps_refusal line kind = codes "refused mps line " ++ decimal line ++ codes " kind " ++ decimal kind ++ codes "\n"
+mps_refusal line kind = codes "refused mps line " ++ decimal line ++ codes " kind " ++ decimal kind
+    ++ codes "\n"
 
 -- a model isn't admitted, by the number of the kind and of the column or row
 abbrev pub model_refusal : ℕ → ℕ → List ℕ
-model_refusal kind index = codes "refused model kind " ++ decimal kind ++ codes " index " ++ decimal index ++ codes "\n"
+model_refusal kind index = codes "refused model kind " ++ decimal kind ++ codes " index " ++ decimal
+    index ++ codes "\n"

@@ -1,4 +1,4 @@
--- The search that words set: the machine's, with so many slots.
+-- The search that words set: the machine's, with so many slots. Who asks only whether an answer is true needn't read it.
 use Rattle.ip_core.specs.declared.model.ModelParts.{ModelParts}
 use Rattle.plain_tasks.specs.Answers.{answer_of}
 use Rattle.plain_tasks.specs.Rules.{rules}

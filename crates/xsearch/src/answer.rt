@@ -9,7 +9,8 @@ use std::alloc::Global;
 /// The text of an answer: its status, and unless no point is feasible the point and its objective.
 pub fn answer_text(alloc: Global, model: &Model, answer: &Answer) -> Result<Text, OutOfMemory>
     requires { HasOneEach model.now answer.now.best }
-    ensures { IfOk result (λ text. text ≡ answer_text_of model.now answer.now.status answer.now.best) }
+    ensures { IfOk result (λ text. text ≡
+        answer_text_of model.now answer.now.status answer.now.best) }
 {
     let mut text = Text::new(alloc);
     match answer.status {

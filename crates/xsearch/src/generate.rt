@@ -17,8 +17,8 @@ use xsearch_words::Sink;
 pub fn gen_command<O: Sink>(alloc: Global, number: u64, out: &mut O) -> u8
     ensures { Ends
         (IsPrinted (generated_model number))
-        (record { out = O.told out.old; faults = O.faults out.old })
-        (record { out = O.told out.new; faults = O.faults out.new })
+        (O.state out.old)
+        (O.state out.new)
         result }
 {
     let found = show_sample(alloc, number);

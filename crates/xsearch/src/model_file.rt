@@ -1,13 +1,15 @@
-ghost use Rattle.std.specs.Prelude.{◌≡◌, ◌≤◌, length, IfOk, MatchResult};
+ghost use Rattle.std.specs.Prelude.{◌≤◌, length, IfOk, IsErrOf, MatchResult};
 ghost use Rattle.mps_model.specs.MpsModels.{IsMpsModel};
 ghost use Rattle.mps_read.specs.Outcomes.{IsCause};
 ghost use Rattle.mps_read.specs.Readings.{Reads};
-ghost use Rattle.xsearch.specs.ModelFiles.{IsModelFile, IsSmall, IsUnread};
-ghost use Rattle.xsearch.specs.Shelves.{IsFile};
+ghost use Rattle.xsearch.specs.ModelFiles.{IsModelFile, IsSmall, IsFileFailure};
+ghost use Rattle.xsearch.specs.Shelves.{IsFile, IsOneRead};
+ghost use Rattle.xsearch_words.specs.Shelf.{HasNoFault};
 
 use crate::outcome::Failure;
 use ip_core::{List, Text};
-use mps_read::{MpsError, MpsModel};
+use mps_model::MpsModel;
+use mps_read::{MpsError, read};
 use std::alloc::Global;
 use xsearch_words::{Shelf, ShelfError};
 
@@ -17,11 +19,13 @@ pub const MAX_MODEL_FILE: u64 = 16_777_216;
 /// The model of the file of this name, or why there is none.
 pub fn read_model<S: Shelf>(alloc: Global, name: &Text, shelf: &mut S) -> Result<MpsModel, Failure>
     ensures cause { MatchResult result
-        (IsModelFile (record { files = S.told shelf.old; faults = S.faults shelf.old; last = S.last_fault shelf.old }) name.now)
-        (IsUnread (record { files = S.told shelf.old; faults = S.faults shelf.old; last = S.last_fault shelf.old }) (record { files = S.told shelf.new; faults = S.faults shelf.new; last = S.last_fault shelf.new }) name.now) }
+        (IsModelFile (S.state shelf.old) name.now)
+        (IsFileFailure (S.state shelf.old) (S.state shelf.new) name.now) }
+    ensures read { IsOneRead (S.state shelf.old) (S.state shelf.new) }
+    ensures quiet { ¬ IsErrOf result Failure.ReadFailed →
+        HasNoFault (S.state shelf.old) (S.state shelf.new) }
     ensures kept { IfOk result IsMpsModel }
     ensures small { IfOk result IsSmall }
-    ensures files { S.told shelf.new ≡ S.told shelf.old }
 {
     let bytes = match read_bytes(alloc, name, shelf) {
         Ok(bytes) => bytes,
@@ -37,25 +41,16 @@ pub fn read_model<S: Shelf>(alloc: Global, name: &Text, shelf: &mut S) -> Result
 /// The bytes of the file of this name, or why there are none.
 fn read_bytes<S: Shelf>(alloc: Global, name: &Text, shelf: &mut S) -> Result<List<u8>, Failure>
     ensures cause { MatchResult result
-        (IsFile (record { files = S.told shelf.old; faults = S.faults shelf.old; last = S.last_fault shelf.old }) name.now)
-        (IsUnread (record { files = S.told shelf.old; faults = S.faults shelf.old; last = S.last_fault shelf.old }) (record { files = S.told shelf.new; faults = S.faults shelf.new; last = S.last_fault shelf.new }) name.now) }
-    ensures files { S.told shelf.new ≡ S.told shelf.old }
+        (IsFile (S.state shelf.old) name.now)
+        (IsFileFailure (S.state shelf.old) (S.state shelf.new) name.now) }
+    ensures read { IsOneRead (S.state shelf.old) (S.state shelf.new) }
+    ensures quiet { ¬ IsErrOf result Failure.ReadFailed →
+        HasNoFault (S.state shelf.old) (S.state shelf.new) }
 {
     match shelf.read(alloc, name, MAX_MODEL_FILE) {
         Ok(bytes) => Ok(bytes),
-        Err(ShelfError::Failed) => Err(Failure::Unread),
+        Err(ShelfError::Failed) => Err(Failure::ReadFailed),
         Err(ShelfError::TooLong) => Err(Failure::Length),
         Err(ShelfError::Memory) => Err(Failure::Memory),
     }
-}
-
-/// The model that the bytes of a file read as. They are so few that the model has few rows and columns.
-#[tactic(auto, using(crate::proofs::SmallModels::small))]
-fn read(alloc: Global, bytes: &[u8]) -> Result<MpsModel, MpsError>
-    requires { length bytes.now ≤ MAX_MODEL_FILE }
-    ensures answer { MatchResult result (λ m. Reads bytes.now m) (λ e. IsCause bytes.now e) }
-    ensures kept { IfOk result IsMpsModel }
-    ensures small { IfOk result IsSmall }
-{
-    mps_read::read(alloc, bytes)
 }

@@ -37,7 +37,7 @@ pub enum Failure {
     Model(Refusal),
     /// A read failed.
     #[error("a file could not be read")]
-    Unread,
+    ReadFailed,
     /// Memory could not be had.
     #[error("out of memory")]
     Memory,

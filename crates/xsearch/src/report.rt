@@ -16,14 +16,14 @@ use xsearch_words::{Sink, WriteError};
 
 /// Puts what was found, and answers the exit status.
 pub fn finish<O: Sink>(alloc: Global, found: Result<Outcome, Failure>, out: &mut O) -> u8
-    ensures { Ends (λ f. f ≡ found) (record { out = O.told out.old; faults = O.faults out.old }) (record { out = O.told out.new; faults = O.faults out.new }) result }
+    ensures { Ends (λ f. f ≡ found) (O.state out.old) (O.state out.new) result }
 {
     exit_code(report(alloc, found, out))
 }
 
 /// Puts what was found: the text of the command, one refusal line, or nothing.
 fn report<O: Sink>(alloc: Global, found: Result<Outcome, Failure>, out: &mut O) -> ExitStatus
-    ensures { EndsAs found (record { out = O.told out.old; faults = O.faults out.old }) (record { out = O.told out.new; faults = O.faults out.new }) result }
+    ensures { EndsAs found (O.state out.old) (O.state out.new) result }
 {
     match found {
         Ok(Outcome::Answered(answer)) => {
@@ -36,20 +36,21 @@ fn report<O: Sink>(alloc: Global, found: Result<Outcome, Failure>, out: &mut O) 
 }
 
 fn report_failure<O: Sink>(alloc: Global, failure: Failure, out: &mut O) -> ExitStatus
-    ensures { EndsAs (Err failure) (record { out = O.told out.old; faults = O.faults out.old }) (record { out = O.told out.new; faults = O.faults out.new }) result }
+    ensures { EndsAs (Err failure) (O.state out.old) (O.state out.new) result }
 {
     match failure {
         Failure::Words => put(alloc, out, b"refused words\n", ExitStatus::RefusedWords),
         Failure::Length => put(alloc, out, b"refused length\n", ExitStatus::RefusedInput),
         Failure::Mps { line, kind } => put_mps_refusal(alloc, out, line, kind),
         Failure::Model(error) => put_model_refusal(alloc, out, error),
-        Failure::Unread => ExitStatus::ShelfFailed,
+        Failure::ReadFailed => ExitStatus::ShelfFailed,
         Failure::Memory => ExitStatus::NoMemory,
     }
 }
 
 fn put_mps_refusal<O: Sink>(alloc: Global, out: &mut O, line: u32, kind: MpsKind) -> ExitStatus
-    ensures { IsPut (record { out = O.told out.old; faults = O.faults out.old }) (record { out = O.told out.new; faults = O.faults out.new }) (mps_refusal_of line (kind_number kind)) ExitStatus.RefusedInput result }
+    ensures { IsPut (O.state out.old) (O.state out.new)
+        (mps_refusal_of line (kind_number kind)) ExitStatus.RefusedInput result }
 {
     match mps_refusal(alloc, line, kind) {
         Ok(text) => put(alloc, out, text.as_slice(), ExitStatus::RefusedInput),
@@ -58,7 +59,8 @@ fn put_mps_refusal<O: Sink>(alloc: Global, out: &mut O, line: u32, kind: MpsKind
 }
 
 fn put_model_refusal<O: Sink>(alloc: Global, out: &mut O, refusal: Refusal) -> ExitStatus
-    ensures { IsPut (record { out = O.told out.old; faults = O.faults out.old }) (record { out = O.told out.new; faults = O.faults out.new }) (model_refusal_of (kind_of refusal) (index_of refusal)) ExitStatus.RefusedInput result }
+    ensures { IsPut (O.state out.old) (O.state out.new)
+        (model_refusal_of (kind_of refusal) (index_of refusal)) ExitStatus.RefusedInput result }
 {
     match model_refusal(alloc, refusal) {
         Ok(text) => put(alloc, out, text.as_slice(), ExitStatus::RefusedInput),
@@ -68,7 +70,7 @@ fn put_model_refusal<O: Sink>(alloc: Global, out: &mut O, refusal: Refusal) -> E
 
 /// Puts a text, and says how the run ends then: with `meant` where it succeeds.
 fn put<O: Sink>(alloc: Global, out: &mut O, text: &[u8], meant: ExitStatus) -> ExitStatus
-    ensures { IsPut (record { out = O.told out.old; faults = O.faults out.old }) (record { out = O.told out.new; faults = O.faults out.new }) text.now meant result }
+    ensures { IsPut (O.state out.old) (O.state out.new) text.now meant result }
 {
     match out.put(alloc, text) {
         Ok(()) => meant,

@@ -24,11 +24,11 @@ use xsearch_words::{Job, JobError, Shelf, Sink, settings};
 /// changed.
 pub fn run<S: Shelf, O: Sink>(alloc: Global, words: &[String], shelf: &mut S, out: &mut O) -> u8
     ensures { Runs
-        (IsCaused (map string_bytes words.now) (record { files = S.told shelf.old; faults = S.faults shelf.old; last = S.last_fault shelf.old }) (record { files = S.told shelf.new; faults = S.faults shelf.new; last = S.last_fault shelf.new }))
-        (record { files = S.told shelf.old; faults = S.faults shelf.old; last = S.last_fault shelf.old })
-        (record { files = S.told shelf.new; faults = S.faults shelf.new; last = S.last_fault shelf.new })
-        (record { out = O.told out.old; faults = O.faults out.old })
-        (record { out = O.told out.new; faults = O.faults out.new })
+        (IsCaused (map string_bytes words.now) (S.state shelf.old) (S.state shelf.new))
+        (S.state shelf.old)
+        (S.state shelf.new)
+        (O.state out.old)
+        (O.state out.new)
         result }
 {
     match settings(alloc, words) {
@@ -41,11 +41,11 @@ pub fn run<S: Shelf, O: Sink>(alloc: Global, words: &[String], shelf: &mut S, ou
 fn run_job<S: Shelf, O: Sink>(alloc: Global, job: &Job, shelf: &mut S, out: &mut O) -> u8
     requires { IsJob job.now }
     ensures { Runs
-        (IsCausedBy job.now (record { files = S.told shelf.old; faults = S.faults shelf.old; last = S.last_fault shelf.old }) (record { files = S.told shelf.new; faults = S.faults shelf.new; last = S.last_fault shelf.new }))
-        (record { files = S.told shelf.old; faults = S.faults shelf.old; last = S.last_fault shelf.old })
-        (record { files = S.told shelf.new; faults = S.faults shelf.new; last = S.last_fault shelf.new })
-        (record { out = O.told out.old; faults = O.faults out.old })
-        (record { out = O.told out.new; faults = O.faults out.new })
+        (IsCausedBy job.now (S.state shelf.old) (S.state shelf.new))
+        (S.state shelf.old)
+        (S.state shelf.new)
+        (O.state out.old)
+        (O.state out.new)
         result }
 {
     match job {

@@ -1,7 +1,7 @@
 ghost use Rattle.std.specs.Prelude.{◌≡◌};
 ghost use Rattle.mps_model.specs.MpsModels.{IsMpsModel};
 ghost use Rattle.xsearch.specs.Causes.{IsCausedBy, IsPrinted};
-ghost use Rattle.xsearch.specs.ModelFiles.{IsOfFile};
+ghost use Rattle.xsearch.specs.ModelFiles.{IsFileJob};
 ghost use Rattle.xsearch.specs.Runs.{Runs};
 ghost use Rattle.xsearch_words.specs.declared.job.Job.TheVariants.{Show};
 
@@ -25,11 +25,11 @@ pub fn show_command<S: Shelf, O: Sink>(
     out: &mut O,
 ) -> u8
     ensures { Runs
-        (IsCausedBy (Show model.now) (record { files = S.told shelf.old; faults = S.faults shelf.old; last = S.last_fault shelf.old }) (record { files = S.told shelf.new; faults = S.faults shelf.new; last = S.last_fault shelf.new }))
-        (record { files = S.told shelf.old; faults = S.faults shelf.old; last = S.last_fault shelf.old })
-        (record { files = S.told shelf.new; faults = S.faults shelf.new; last = S.last_fault shelf.new })
-        (record { out = O.told out.old; faults = O.faults out.old })
-        (record { out = O.told out.new; faults = O.faults out.new })
+        (IsCausedBy (Show model.now) (S.state shelf.old) (S.state shelf.new))
+        (S.state shelf.old)
+        (S.state shelf.new)
+        (O.state out.old)
+        (O.state out.new)
         result }
 {
     let found = show_file(alloc, model, shelf);
@@ -38,8 +38,7 @@ pub fn show_command<S: Shelf, O: Sink>(
 
 /// Prints the model of a file, which isn't admitted: its canonical text, or why there is none.
 fn show_file<S: Shelf>(alloc: Global, model: &Text, shelf: &mut S) -> Result<Outcome, Failure>
-    ensures cause { IsOfFile IsPrinted (record { files = S.told shelf.old; faults = S.faults shelf.old; last = S.last_fault shelf.old }) (record { files = S.told shelf.new; faults = S.faults shelf.new; last = S.last_fault shelf.new }) model.now result }
-    ensures files { S.told shelf.new ≡ S.told shelf.old }
+    ensures { IsFileJob IsPrinted (S.state shelf.old) (S.state shelf.new) model.now result }
 {
     match read_model(alloc, model, shelf) {
         Ok(mps) => show_model(alloc, &mps),

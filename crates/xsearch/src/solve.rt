@@ -4,9 +4,10 @@ ghost use Rattle.mps_model.specs.MpsModels.{IsMpsModel};
 ghost use Rattle.stamp_machine.specs.Limits.{AreLimits};
 ghost use Rattle.width_admit.specs.Admission.{IsCause};
 ghost use Rattle.xsearch.specs.Causes.{IsAnswer, IsSolved, IsSolvedFile};
-ghost use Rattle.xsearch.specs.ModelFiles.{IsOfFile, IsSmall};
+ghost use Rattle.xsearch.specs.ModelFiles.{IsFileJob, IsSmall};
 ghost use Rattle.xsearch.specs.Runs.{Runs};
-ghost use Rattle.xsearch.specs.Searches.{limits_of as limits_of_tune};
+ghost use Rattle.xsearch.specs.Searches.{limits_of as limits_of_tune, searched};
+ghost use Rattle.xsearch_words.specs.Jobs.{IsSolveJob};
 ghost use Rattle.xsearch_words.specs.Tunes.{IsTune};
 
 use crate::answer::answer_text;
@@ -34,13 +35,13 @@ pub fn solve_alone<S: Shelf, O: Sink>(
     shelf: &mut S,
     out: &mut O,
 ) -> u8
-    requires { IsTune job.now.tune }
+    requires { IsSolveJob job.now }
     ensures { Runs
-        (IsSolvedFile job.now (record { files = S.told shelf.old; faults = S.faults shelf.old; last = S.last_fault shelf.old }) (record { files = S.told shelf.new; faults = S.faults shelf.new; last = S.last_fault shelf.new }))
-        (record { files = S.told shelf.old; faults = S.faults shelf.old; last = S.last_fault shelf.old })
-        (record { files = S.told shelf.new; faults = S.faults shelf.new; last = S.last_fault shelf.new })
-        (record { out = O.told out.old; faults = O.faults out.old })
-        (record { out = O.told out.new; faults = O.faults out.new })
+        (IsSolvedFile job.now (S.state shelf.old) (S.state shelf.new))
+        (S.state shelf.old)
+        (S.state shelf.new)
+        (O.state out.old)
+        (O.state out.new)
         result }
 {
     let found = solve_file(alloc, &job.model, &job.tune, job.default_upper, shelf);
@@ -56,8 +57,8 @@ fn solve_file<S: Shelf>(
     shelf: &mut S,
 ) -> Result<Outcome, Failure>
     requires { IsTune tune.now }
-    ensures cause { IsOfFile (IsSolved tune.now default_upper) (record { files = S.told shelf.old; faults = S.faults shelf.old; last = S.last_fault shelf.old }) (record { files = S.told shelf.new; faults = S.faults shelf.new; last = S.last_fault shelf.new }) model.now result }
-    ensures files { S.told shelf.new ≡ S.told shelf.old }
+    ensures { IsFileJob (IsSolved tune.now default_upper)
+        (S.state shelf.old) (S.state shelf.new) model.now result }
 {
     match read_model(alloc, model, shelf) {
         Ok(mps) => solve_model(alloc, &mps, tune, default_upper),
@@ -105,7 +106,7 @@ fn refuse(
 #[tactic(auto, using(crate::proofs::TrueAnswers::one_each))]
 fn answer(alloc: Global, model: Model, tune: &Tune) -> Result<PrintedAnswer, OutOfMemory>
     requires { IsTune tune.now }
-    ensures { IfOk result (λ answer. IsAnswer model tune.now answer) }
+    ensures { IfOk result (λ print. IsAnswer model tune.now (searched model tune.now) print) }
 {
     let search = PlainSearch::of(model);
     let limits = limits_of(tune);

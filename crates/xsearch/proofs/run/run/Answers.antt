@@ -3,4 +3,5 @@ use Rattle.xsearch.proofs.Running.{weaker}
 use Rattle.xsearch.proofs.run.run.Goals as goal
 
 pub returns-in-Ok : goal.returns-in-Ok
-returns-in-Ok g c = weaker _ _ _ _ _ _ _ (λ found cause. Asked c.in-Ok.job c.in-Ok.ensures.answer cause) c.run_job.ensures
+returns-in-Ok g c =
+    weaker _ _ _ _ _ _ _ (λ found cause. Asked (record { asked = c.in-Ok.job; is = c.in-Ok.ensures.answer; cause = cause })) c.run_job.ensures

@@ -3,6 +3,6 @@ use Rattle.xsearch.proofs.show.show_command.Goals as goal
 
 pub returns : goal.returns
 returns g c = record {
-  ends = with_cause _ c.show_file-found.result _ _ _ c.show_file-found.ensures.cause c.finish.ensures;
-  files_stay = c.show_file-found.ensures.files;
+  ends = with_cause _ c.show_file-found.result _ _ _ c.show_file-found.ensures c.finish.ensures;
+  files_stay = c.show_file-found.ensures.read.files;
 }

@@ -4,6 +4,12 @@ use Rattle.xsearch.proofs.TrueAnswers.{true_of_file}
 use Rattle.xsearch.proofs.solve.solve_model.Goals as goal
 
 pub returns-in-Ok-answer : goal.returns-in-Ok-answer
-returns-in-Ok-answer c =
-    Solved c.in-Ok.model c.in-Ok-answer.answer refl c.in-Ok.ensures c.in-Ok-answer.ensures
-    (true_of_file c.args.mps.now c.args.default_upper c.in-Ok.model c.requires.kept c.in-Ok.ensures _ c.in-Ok-answer.ensures.truth)
+returns-in-Ok-answer c = Solved (record {
+  m = c.in-Ok.model;
+  answer = _;
+  print = c.in-Ok-answer.answer;
+  is = refl;
+  admits = c.in-Ok.ensures;
+  of_model = c.in-Ok-answer.ensures;
+  of_file = true_of_file c.args.mps.now c.args.default_upper c.in-Ok.model c.requires.kept c.in-Ok.ensures _ c.in-Ok-answer.ensures.truth;
+})
