@@ -6,5 +6,5 @@ use Rattle.sample_model.specs.Samples.{generated_model}
 
 -- each one is admitted as it stands, as some model in whole numbers
 abbrev pub SamplesAreAdmitted : Type 0
-SamplesAreAdmitted = (number : ℕ) → (parts : ModelParts)
-    × Admits (generated_model number) None parts
+SamplesAreAdmitted =
+    (number : ℕ) → (parts : ModelParts) × Admits (generated_model number) None parts

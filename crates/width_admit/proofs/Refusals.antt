@@ -16,7 +16,7 @@ use Rattle.width_admit.specs.ExactRows.{ExactRow, exact_terms, exact_row, row_ex
 use Rattle.mps_model.specs.declared.model.MpsModel.{MpsModel}
 use Rattle.width_admit.specs.KindNumbers.{kind_of, index_of}
 use Rattle.width_admit.specs.Refusals.{refusal_of}
-use Rattle.width_admit.specs.Admission.{first_from, refusal_if, refusal, IsCause, IsNotAdmitted}
+use Rattle.width_admit.specs.Admission.{first_from, refusal_if, IsCause, IsNotAdmitted}
 use Rattle.width_admit.specs.Gathered.{exact, AreGathered}
 use Rattle.width_admit.specs.Held.{terms_from}
 use Rattle.width_admit.proofs.SideNumbers.{listed}
