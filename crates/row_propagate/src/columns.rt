@@ -22,19 +22,56 @@ pub fn columns_of(
     requires cuts { HaveTerms count cuts.now }
     ensures { IfOk result (λ columns. AreColumns count (rows.now ++ cuts.now) columns) }
 {
-    let mut columns = empty_columns(alloc, count)?;
+    let counts = entry_counts(alloc, count, rows, cuts)?;
+    let mut columns = empty_columns(alloc, counts.as_slice())?;
     add_rows(&mut columns, rows, 0)?;
     add_rows(&mut columns, cuts, rows.len())?;
     Ok(columns)
 }
 
-/// Columns without entries.
-fn empty_columns(alloc: Global, count: usize) -> Result<List<List<Term>>, OutOfMemory>
-    ensures { IfOk result (λ columns. AreColumns count [] columns) }
+/// How many entries each column has. The counts only say how much room to take; nothing else rests on them.
+fn entry_counts(
+    alloc: Global,
+    count: usize,
+    rows: &[Row],
+    cuts: &[Row],
+) -> Result<Vec<u32>, OutOfMemory>
+    requires rows { HaveTerms count rows.now }
+    requires cuts { HaveTerms count cuts.now }
+    ensures { IfOk result (λ counts. length counts.items ≡ count) }
+{
+    let mut counts = vec![in alloc; 0u32; count]?;
+    count_entries(&mut counts, rows);
+    count_entries(&mut counts, cuts);
+    Ok(counts)
+}
+
+/// Adds to each column's count its entries in rows.
+fn count_entries(counts: &mut [u32], rows: &[Row])
+    requires { HaveTerms (length counts.old) rows.now }
+{
+    for row in rows {
+        count_terms(counts, row.terms.as_slice());
+    }
+}
+
+/// The same of one row.
+fn count_terms(counts: &mut [u32], terms: &[Term])
+    requires { AreTerms (length counts.old) terms.now }
+{
+    for term in terms {
+        let count = &mut counts[term.col as usize];
+        *count = count.wrapping_add(1);
+    }
+}
+
+/// Columns without entries, with room for as many as their counts say.
+fn empty_columns(alloc: Global, counts: &[u32]) -> Result<List<List<Term>>, OutOfMemory>
+    ensures { IfOk result (λ columns. AreColumns (length counts.now) [] columns) }
 {
     let mut columns = List::new(alloc);
-    while columns.len() < count {
-        columns.push(List::new(alloc))?;
+    for count in counts {
+        columns.push(List::of(Vec::with_capacity(alloc, *count as usize)?))?;
     }
     Ok(columns)
 }
