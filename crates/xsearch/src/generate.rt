@@ -15,11 +15,7 @@ use xsearch_words::Sink;
 ///
 /// The status is 0 where the text went out, 7 where the put failed, and 8 where memory could not be had.
 pub fn gen_command<O: Sink>(alloc: Global, number: u64, out: &mut O) -> u8
-    ensures { Ends
-        (IsPrinted (generated_model number))
-        (O.state out.old)
-        (O.state out.new)
-        result }
+    ensures { Ends (IsPrinted (generated_model number)) (O.state out.old) (O.state out.new) result }
 {
     let found = show_sample(alloc, number);
     finish(alloc, found, out)

@@ -23,13 +23,8 @@ use xsearch_words::{Job, JobError, Shelf, Sink, settings};
 /// be had. A text goes out by one put. After 6 and 8 nothing has gone out, and after 7 a front of the text has. No file is
 /// changed.
 pub fn run<S: Shelf, O: Sink>(alloc: Global, words: &[String], shelf: &mut S, out: &mut O) -> u8
-    ensures { Runs
-        (IsCaused (map string_bytes words.now) (S.state shelf.old) (S.state shelf.new))
-        (S.state shelf.old)
-        (S.state shelf.new)
-        (O.state out.old)
-        (O.state out.new)
-        result }
+    ensures { Runs (IsCaused (map string_bytes words.now) (S.state shelf.old) (S.state shelf.new))
+        (S.state shelf.old) (S.state shelf.new) (O.state out.old) (O.state out.new) result }
 {
     match settings(alloc, words) {
         Ok(job) => run_job(alloc, &job, shelf, out),
@@ -40,13 +35,8 @@ pub fn run<S: Shelf, O: Sink>(alloc: Global, words: &[String], shelf: &mut S, ou
 
 fn run_job<S: Shelf, O: Sink>(alloc: Global, job: &Job, shelf: &mut S, out: &mut O) -> u8
     requires { IsJob job.now }
-    ensures { Runs
-        (IsCausedBy job.now (S.state shelf.old) (S.state shelf.new))
-        (S.state shelf.old)
-        (S.state shelf.new)
-        (O.state out.old)
-        (O.state out.new)
-        result }
+    ensures { Runs (IsCausedBy job.now (S.state shelf.old) (S.state shelf.new))
+        (S.state shelf.old) (S.state shelf.new) (O.state out.old) (O.state out.new) result }
 {
     match job {
         Job::Solve(job) => solve_alone(alloc, job, shelf, out),

@@ -24,13 +24,8 @@ pub fn show_command<S: Shelf, O: Sink>(
     shelf: &mut S,
     out: &mut O,
 ) -> u8
-    ensures { Runs
-        (IsCausedBy (Show model.now) (S.state shelf.old) (S.state shelf.new))
-        (S.state shelf.old)
-        (S.state shelf.new)
-        (O.state out.old)
-        (O.state out.new)
-        result }
+    ensures { Runs (IsCausedBy (Show model.now) (S.state shelf.old) (S.state shelf.new))
+        (S.state shelf.old) (S.state shelf.new) (O.state out.old) (O.state out.new) result }
 {
     let found = show_file(alloc, model, shelf);
     finish(alloc, found, out)

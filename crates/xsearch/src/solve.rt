@@ -36,13 +36,8 @@ pub fn solve_alone<S: Shelf, O: Sink>(
     out: &mut O,
 ) -> u8
     requires { IsSolveJob job.now }
-    ensures { Runs
-        (IsSolvedFile job.now (S.state shelf.old) (S.state shelf.new))
-        (S.state shelf.old)
-        (S.state shelf.new)
-        (O.state out.old)
-        (O.state out.new)
-        result }
+    ensures { Runs (IsSolvedFile job.now (S.state shelf.old) (S.state shelf.new))
+        (S.state shelf.old) (S.state shelf.new) (O.state out.old) (O.state out.new) result }
 {
     let found = solve_file(alloc, &job.model, &job.tune, job.default_upper, shelf);
     finish(alloc, found, out)
