@@ -36,7 +36,7 @@ fn fields_of_lines(rt: HostRuntime) -> Result<(), Fail> {
     assert!(rt; section_named(b"RHS") == Some(Section::Rhs) && section_named(b"rhs").is_none());
     assert!(rt; bound_named(b"BV").is_some() && bound_named(b"bv").is_none());
     match next_line(b"a\n\nb") {
-        Some((line, rest)) => assert!(rt; line == b"a" && rest == b"\nb"),
+        Some((line, rest)) => assert!(rt; line == b"a".as_slice() && rest == b"\nb".as_slice()),
         None => assert!(rt; false),
     }
     Ok(())

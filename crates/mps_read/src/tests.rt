@@ -511,7 +511,7 @@ fn reprinted(alloc: Global, bytes: &[u8]) -> Result<Option<Text>, OutOfMemory> {
 fn prints_what_was_read(rt: HostRuntime) -> Result<(), Fail> {
     let text =
         b"* note\nNAME one\nROWS\n N c\nCOLUMNS\n M 'MARKER' 'INTORG'\n x c 1.0\nRHS\n c -0\nBOUNDS\n UP b x 10e-1\nENDATA\n";
-    let expected =
+    let expected: &[u8] =
         b"NAME one\nROWS\n N c\nCOLUMNS\n M 'MARKER' 'INTORG'\n x c 1\n M 'MARKER' 'INTEND'\nBOUNDS\n UP BND x 1\nENDATA\n";
     let printed = reprinted(rt.alloc(), text)?;
     assert!(rt; printed.is_some_and(|text| text.as_slice() == expected));
