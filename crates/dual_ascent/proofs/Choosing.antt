@@ -9,7 +9,8 @@ use Rattle.ip_core.specs.declared.row.Row.{Row}
 use Rattle.ip_core.proofs.RunningSums.{both_fit, both_are}
 use Rattle.safe_bound.specs.declared.limits.TheConstants.{MAX_MULTIPLIER}
 use Rattle.safe_bound.specs.Bounds.{all_rows, numerator}
-use Rattle.safe_bound.specs.Premises.{AreCuts, AreSmall, IsWithinReach}
+use Rattle.safe_bound.specs.Premises.{AreCuts, AreSmall}
+use Rattle.ip_core.specs.Boxes.{IsWithinReach}
 use Rattle.safe_bound.proofs.Sizes.{small_fits}
 use Rattle.dual_ascent.specs.declared.climb.Choice.{Choice}
 use Rattle.dual_ascent.specs.declared.reduced.Reduced.{Reduced}

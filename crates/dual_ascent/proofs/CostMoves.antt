@@ -13,7 +13,8 @@ use Rattle.ip_core.specs.declared.row.Term.{Term}
 use Rattle.ip_core.proofs.IntSums.{int_sum_by_more}
 use Rattle.ip_core.proofs.NarrowSums.{front_small}
 use Rattle.safe_bound.specs.Bounds.{all_rows, row_of}
-use Rattle.safe_bound.specs.Premises.{AreCuts, AreWithin, IsWithinReach}
+use Rattle.safe_bound.specs.Premises.{AreCuts, AreWithin}
+use Rattle.ip_core.specs.Boxes.{IsWithinReach}
 use Rattle.safe_bound.proofs.Sizes.{small_fits, unsigned_abs-sub_le, front_narrow}
 use Rattle.dual_ascent.specs.declared.reduced.Reduced.{Reduced}
 use Rattle.dual_ascent.specs.Ends.{end_at, end_activity, end_fall, spread}

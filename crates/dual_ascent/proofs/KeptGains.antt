@@ -12,7 +12,8 @@ use Rattle.ip_core.specs.declared.row.Row.{Row}
 use Rattle.ip_core.specs.declared.row.Term.{Term}
 use Rattle.safe_bound.specs.declared.limits.TheConstants.{MAX_MULTIPLIER}
 use Rattle.safe_bound.specs.Bounds.{all_rows, row_of, numerator}
-use Rattle.safe_bound.specs.Premises.{AreCuts, AreMultipliers, AreWithin, IsWithinReach}
+use Rattle.safe_bound.specs.Premises.{AreCuts, AreMultipliers, AreWithin}
+use Rattle.ip_core.specs.Boxes.{IsWithinReach}
 use Rattle.safe_bound.proofs.Smallness.{numerator_is_small, reduced_cost_small, rows_few}
 use Rattle.safe_bound.proofs.Sizes.{unsigned_abs-sub_le}
 use Rattle.dual_ascent.specs.declared.reduced.Reduced.{Reduced}

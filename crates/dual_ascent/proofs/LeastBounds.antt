@@ -6,8 +6,9 @@ use Rattle.ip_core.specs.Models.{IsModel}
 use Rattle.ip_core.specs.declared.model.ModelParts.{ModelParts}
 use Rattle.ip_core.specs.declared.row.Row.{Row}
 use Rattle.safe_bound.specs.Bounds.{all_rows, numerator}
-use Rattle.safe_bound.specs.Premises.{IsWithinReach}
-use Rattle.safe_bound.proofs.LeastValues.{le-ceiling, numerator-none, least_value_small}
+use Rattle.ip_core.specs.Boxes.{IsWithinReach}
+use Rattle.ip_core.proofs.Reaching.{least_shares_small}
+use Rattle.safe_bound.proofs.LeastValues.{le-ceiling, numerator-none}
 use Rattle.safe_bound.proofs.PointBoxes.{least_value_of_point}
 use Rattle.dual_ascent.specs.Ascents.{ascent, first_climb}
 use Rattle.dual_ascent.specs.Laws.{ascent_bound, BoundIsAboveLeast, BoundIsAboveLimit, BoundFits, PointIsReached}
@@ -26,7 +27,7 @@ above_limit : (a b : ℤ) → unsigned_abs a ≤ 2 ^ 50 → a ≤ℤ b → neg_�
 above_limit a b small le = omega (arith, ints)
 
 pub bound_is_above_limit : BoundIsAboveLimit
-bound_is_above_limit m cuts s valid within = above_limit (least_value m s) (ascent_bound m cuts s) (least_value_small m s valid within) (bound_is_above_least m cuts s)
+bound_is_above_limit m cuts s valid within = above_limit (least_value m s) (ascent_bound m cuts s) (least_shares_small m s (length m.costs) valid within (omega arith)) (bound_is_above_least m cuts s)
 
 between_fits : (a cutoff : ℤ) → neg_ℤ (pos (2 ^ 50)) ≤ℤ a → a <ℤ cutoff → cutoff ≤ℤ pos (2 ^ 51) → FitsSigned w64 a
 between_fits a cutoff above below few = fits_signed_from_abs w64 a (omega (arith, ints))

@@ -3,7 +3,6 @@ pub mod Climbing
 pub mod Rounds
 pub mod Rows
 pub mod Candidates
-pub mod RowLengths
 pub mod AscentWork
 pub mod Choices
 pub mod Multipliers

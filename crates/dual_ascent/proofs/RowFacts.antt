@@ -7,18 +7,19 @@ use Rattle.std.proofs.lemmas.List.Elements.{All-append, All-head, All-tail}
 use Rattle.std.proofs.lemmas.List.Sums.{sum_by-cons}
 use Rattle.std.proofs.Math.IntN.{*ℤ_comm}
 use Rattle.ip_core.specs.Numbers.{int_at, int_sum_by}
-use Rattle.ip_core.specs.Sides.{IsWithinLimit}
 use Rattle.ip_core.specs.Sides.{Sides, reach}
-use Rattle.ip_core.specs.Rows.{IsTerm, AreTerms, IsRow, term_width, own_coefficient, coefficient}
+use Rattle.ip_core.specs.Rows.{IsTerm, AreTerms, IsRow, IsReady, term_width, own_coefficient, coefficient}
 use Rattle.ip_core.specs.Models.{IsModel}
 use Rattle.ip_core.specs.declared.model.ModelParts.{ModelParts}
 use Rattle.ip_core.specs.declared.row.Row.{Row}
 use Rattle.ip_core.specs.declared.row.Term.{Term}
+use Rattle.ip_core.proofs.Reaching.{reach-le_limit, row_ready}
 use Rattle.ip_core.proofs.IntSums.{unsigned_abs-int_sum_by}
 use Rattle.ip_core.proofs.IntProducts.{mul_add}
 use Rattle.safe_bound.specs.Bounds.{all_rows, row_of}
-use Rattle.safe_bound.specs.Premises.{AreCuts, AreLightTerms, IsWithinReach}
-use Rattle.safe_bound.proofs.Smallness.{reach-le, light_row}
+use Rattle.safe_bound.specs.Premises.{AreCuts, AreLightTerms}
+use Rattle.ip_core.specs.Boxes.{IsWithinReach}
+use Rattle.safe_bound.proofs.Smallness.{light_row}
 use Rattle.safe_bound.proofs.Weighted.{own_here, own_elsewhere}
 use Rattle.dual_ascent.specs.Ends.{least_end, end_at, end_activity, end_fall, spread}
 use Rattle.dual_ascent.proofs.Changes.{mul_sub}
@@ -32,23 +33,21 @@ row_valid m cuts k valid are_cuts known = All-append (IsRow (length m.cols) m.ro
 pub row_light : (m : ModelParts) (cuts : List Row) (k : ℕ) → IsModel m → AreCuts m cuts → k < length (all_rows m cuts) → AreLightTerms (length m.cols) (row_of m cuts k).terms
 row_light m cuts k valid are_cuts known = light_row (length m.cols) m.root (row_of m cuts k) (row_valid m cuts k valid are_cuts known)
 
-widths_within : (root s : Sides) (terms : List Term) → IsWithinReach root s → All (IsTerm (length s.lows)) terms → sum_by (term_width s) terms ≤ sum_by (term_width root) terms
-widths_within root s [] within known = omega arith
-widths_within root s (t ∷ terms) within known =
-    let here : term_width s t ≤ term_width root t = mul-le-mul_left (unsigned_abs t.coef) (reach-le root s t.col within (All-head (IsTerm (length s.lows)) t terms known).known) in
-    rw (sum_by-cons (term_width s) t terms, sum_by-cons (term_width root) t terms) (omega (arith, here, widths_within root s terms within (All-tail (IsTerm (length s.lows)) t terms known)))
-
 -- the columns of the box are those of the model
 pub box_columns : (m : ModelParts) (s : Sides) → IsModel m → IsWithinReach m.root s → length s.lows ≡ length m.cols
 box_columns m s valid within = within.columns ∙ valid.bounds.box
 
-pub row_known : (m : ModelParts) (cuts : List Row) (s : Sides) (k : ℕ) → IsModel m → AreCuts m cuts → IsWithinReach m.root s → k < length (all_rows m cuts) → AreTerms (length s.lows) (row_of m cuts k).terms
-row_known m cuts s k valid are_cuts within known = rw (box_columns m s valid within) (row_valid m cuts k valid are_cuts known).terms
+-- a row is ready for a box within reach
+row_ready_there : (m : ModelParts) (cuts : List Row) (s : Sides) (k : ℕ) → IsModel m → AreCuts m cuts → IsWithinReach m.root s → k < length (all_rows m cuts) → IsReady s (row_of m cuts k)
+row_ready_there m cuts s k valid are_cuts within known = row_ready (length m.cols) m.root s (row_of m cuts k) valid.bounds.box within (row_valid m cuts k valid are_cuts known)
 
--- a row is narrow on a box within reach
+-- so its columns are those of the box
+pub row_known : (m : ModelParts) (cuts : List Row) (s : Sides) (k : ℕ) → IsModel m → AreCuts m cuts → IsWithinReach m.root s → k < length (all_rows m cuts) → AreTerms (length s.lows) (row_of m cuts k).terms
+row_known m cuts s k valid are_cuts within known = (row_ready_there m cuts s k valid are_cuts within known).terms
+
+-- and it is narrow there
 pub row_narrow : (m : ModelParts) (cuts : List Row) (s : Sides) (k : ℕ) → IsModel m → AreCuts m cuts → IsWithinReach m.root s → k < length (all_rows m cuts) → sum_by (term_width s) (row_of m cuts k).terms ≤ 2 ^ 50
-row_narrow m cuts s k valid are_cuts within known =
-    omega (arith, widths_within m.root s (row_of m cuts k).terms within (row_known m cuts s k valid are_cuts within known).each, (row_valid m cuts k valid are_cuts known).narrow)
+row_narrow m cuts s k valid are_cuts within known = omega (arith, (row_ready_there m cuts s k valid are_cuts within known).narrow)
 
 end_reached : (low high c : ℤ) (n : ℕ) → unsigned_abs low ≤ n → unsigned_abs high ≤ n → unsigned_abs (least_end low high c) ≤ n
 end_reached low high (pos c) n first second = grind (arith, ints, clamps)
@@ -66,25 +65,11 @@ end_activity_small s costs terms = unsigned_abs-int_sum_by (λ (t : Term). t.coe
 spread_between : (low high : ℤ) (n : ℕ) → unsigned_abs low ≤ n → unsigned_abs high ≤ n → unsigned_abs (high -ℤ low) ≤ n + n
 spread_between low high n first second = omega (arith, ints)
 
-limited_cases : (xs : List ℤ) (j : ℕ) → IsWithinLimit xs → (j < length xs) ⊎ (length xs ≤ j) → unsigned_abs (int_at xs j) ≤ 2 ^ 31
-limited_cases xs j limits (inl known) = limits.each j (pos 0) known
-limited_cases xs j limits (inr past) = rw (get_or_past xs j (pos 0) past) (omega arith)
-
-limited : (xs : List ℤ) (j : ℕ) → IsWithinLimit xs → unsigned_abs (int_at xs j) ≤ 2 ^ 31
-limited xs j limits = limited_cases xs j limits (cases_lt j (length xs))
-
-root_reach : (m : ModelParts) (j : ℕ) → IsModel m → j < length m.root.lows → reach m.root j ≤ 2 ^ 31
-root_reach m j valid known =
-    let low : unsigned_abs (int_at m.root.lows j) ≤ 2 ^ 31 = limited m.root.lows j valid.bounds.limits.lows in
-    let high : unsigned_abs (int_at m.root.highs j) ≤ 2 ^ 31 = limited m.root.highs j valid.bounds.limits.highs in
-    omega arith
-
 -- the ends of a column are at most 2^32 apart
 pub spread_small : (m : ModelParts) (s : Sides) (j : ℕ) → IsModel m → IsWithinReach m.root s → j < length s.lows → spread s j ≤ 2 ^ 32
 spread_small m s j valid within known =
-    let col : j < length m.root.lows = omega (arith, within.columns) in
-    let far : reach m.root j ≤ 2 ^ 31 = root_reach m j valid col in
-    spread_between (int_at s.lows j) (int_at s.highs j) (2 ^ 31) (omega (arith, within.lows j known, far)) (omega (arith, within.highs j known, far))
+    let far : reach m.root j ≤ 2 ^ 31 = reach-le_limit m.root j valid.bounds.limits in
+    spread_between (int_at s.lows j) (int_at s.highs j) (2 ^ 31) (omega (arith, within.lows j, far)) (omega (arith, within.highs j, far))
 
 term_moved : (coef fall e new own : ℤ) → e -ℤ new ≡ fall → own ≡ coef → coef *ℤ new ≡ (coef *ℤ e) -ℤ (fall *ℤ own)
 term_moved coef fall e new own moved same =

@@ -1,10 +1,9 @@
 -- The climb of a model's multipliers by the numerator of their bound.
-use Rattle.std.specs.Prelude.{ℕ, ◌+◌, ◌*◌, min, max, List, [], ◌∷◌, length, replicate, ◌≤◌, ℤ, unsigned_abs, All}
+use Rattle.std.specs.Prelude.{ℕ, ◌+◌, ◌*◌, min, max, List, [], ◌∷◌, length, replicate, ℤ, unsigned_abs}
 use Rattle.ip_core.specs.Sides.{Sides}
 use Rattle.ip_core.specs.Models.{term_count}
 use Rattle.ip_core.specs.declared.model.ModelParts.{ModelParts}
 use Rattle.ip_core.specs.declared.row.Row.{Row}
-use Rattle.ip_core.specs.declared.limits.TheConstants.{MAX_COLUMNS}
 use Rattle.safe_bound.specs.declared.limits.TheConstants.{MAX_MULTIPLIER}
 use Rattle.safe_bound.specs.Bounds.{all_rows, numerator}
 use Rattle.dual_ascent.specs.Climbs.{Climb}
@@ -38,7 +37,3 @@ round_work m cuts = 3 * term_count (all_rows m cuts) + 1
 -- the work of all rounds
 abbrev pub ascent_work : ModelParts → List Row → Sides → ℕ
 ascent_work m cuts s = (ascent m cuts s).rounds * round_work m cuts
-
--- each row has at most 4,096 terms
-pub record HasShortRows (rows : List Row) : Type 0 where
-  pub each : All (λ (row : Row). length row.terms ≤ MAX_COLUMNS) rows

@@ -9,7 +9,8 @@ use Rattle.ip_core.specs.Truth.{value_at}
 use Rattle.ip_core.specs.declared.model.ModelParts.{ModelParts}
 use Rattle.ip_core.specs.declared.row.Row.{Row}
 use Rattle.safe_bound.specs.Bounds.{all_rows, row_of, lagrangian_bound}
-use Rattle.safe_bound.specs.Premises.{AreMultipliers, IsWithinReach}
+use Rattle.safe_bound.specs.Premises.{AreMultipliers}
+use Rattle.ip_core.specs.Boxes.{IsWithinReach}
 use Rattle.dual_ascent.specs.Climbs.{Climb}
 use Rattle.dual_ascent.specs.Climbs.{after_row, after_rounds, candidates, next_multiplier, trial}
 use Rattle.dual_ascent.specs.Ascents.{ascent, greatest_size}

@@ -1,7 +1,8 @@
 ghost use Rattle.std.specs.Prelude.{◌≡◌, ◌≤◌, ◌+◌, ◌^◌, ◌≤ℤ◌, pos, neg_ℤ, IfOk};
 ghost use Rattle.ip_core.specs.Boxes.{least_value};
 ghost use Rattle.safe_bound.specs.Bounds.{bound_point, lagrangian_bound};
-ghost use Rattle.safe_bound.specs.Premises.{AreCuts, AreMultipliers, IsWithinReach};
+ghost use Rattle.safe_bound.specs.Premises.{AreCuts, AreMultipliers};
+ghost use Rattle.ip_core.specs.Boxes.{IsWithinReach};
 ghost use Rattle.dual_ascent.specs.Ascents.{ascent, ascent_work};
 
 use crate::climb::final_climb;

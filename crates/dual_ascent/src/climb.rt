@@ -1,6 +1,7 @@
 ghost use Rattle.std.specs.Prelude.{◌≡◌, ◌+◌, ◌*◌, ◌≤◌, ◌<◌, ◌==◌, ◌≤ℤ◌, not, min, length, pos, slice_index, IfOk, MatchOption, OnErr};
 ghost use Rattle.safe_bound.specs.Bounds.{all_rows, numerator as numerator_of};
-ghost use Rattle.safe_bound.specs.Premises.{AreCuts, IsWithinReach};
+ghost use Rattle.safe_bound.specs.Premises.{AreCuts};
+ghost use Rattle.ip_core.specs.Boxes.{IsWithinReach};
 ghost use Rattle.dual_ascent.specs.Climbs.{after_round, after_row, after_rows, is_same, next_multiplier};
 ghost use Rattle.dual_ascent.specs.Ascents.{ascent, ascent_work, first_climb as first_climb_of, first_step_size as first_step_size_of, round_work as round_work_of};
 ghost use Rattle.dual_ascent.specs.Kept.{IsKept, lack};

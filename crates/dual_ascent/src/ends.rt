@@ -2,7 +2,8 @@ ghost use Rattle.std.specs.Prelude.{ℕ, ◌≡◌, ◌<◌, ◌≤◌, ◌^◌,
 ghost use Rattle.ip_core.specs.Numbers.{int_at};
 ghost use Rattle.ip_core.specs.Rows.{AreTerms, term_width};
 ghost use Rattle.safe_bound.specs.Bounds.{all_rows, row_of};
-ghost use Rattle.safe_bound.specs.Premises.{AreCuts, IsWithinReach};
+ghost use Rattle.safe_bound.specs.Premises.{AreCuts};
+ghost use Rattle.ip_core.specs.Boxes.{IsWithinReach};
 ghost use Rattle.dual_ascent.specs.Ends.{end_activity as end_activity_of, end_at as end_at_of, spread};
 
 use crate::all_rows::row_at;

@@ -3,7 +3,8 @@ ghost use Rattle.ip_core.specs.Numbers.{int_at};
 ghost use Rattle.ip_core.specs.Rows.{AreTerms, coefficient};
 ghost use Rattle.std.specs.Int.{int_max};
 ghost use Rattle.safe_bound.specs.Bounds.{all_rows, numerator as numerator_of};
-ghost use Rattle.safe_bound.specs.Premises.{AreCuts, AreWithin, IsWithinReach};
+ghost use Rattle.safe_bound.specs.Premises.{AreCuts, AreWithin};
+ghost use Rattle.ip_core.specs.Boxes.{IsWithinReach};
 ghost use Rattle.dual_ascent.specs.Kept.{AreOfRows, HasActivities, IsKept, lack as lack_of, sizes};
 
 use crate::all_rows::row_at;

@@ -14,9 +14,8 @@ use Rattle.ip_core.proofs.IntSums.{unsigned_abs-int_sum_below}
 use Rattle.ip_core.proofs.ColumnSums.{int_sum_below-same, int_sum_below-scale, sum_below-le}
 use Rattle.ip_core.proofs.Widths.{model_costs_narrow}
 use Rattle.safe_bound.specs.Bounds.{all_rows, reduced_cost, share, numerator}
-use Rattle.safe_bound.specs.Premises.{IsWithinReach}
+use Rattle.ip_core.specs.Boxes.{IsWithinReach}
 use Rattle.safe_bound.proofs.Shares.{share_small}
-use Rattle.safe_bound.proofs.Smallness.{reach-le}
 use Rattle.safe_bound.proofs.Weighted.{weighted_sum-none}
 
 -- a whole number whose multiple is at most a number is at most its quotient by 1,024, rounded up
@@ -49,14 +48,3 @@ numerator-none m cuts s n =
     ∙ int_sum_below-scale (length m.costs) (pos 1024) (least_share m s)
     in
     sum_alone _ _ _ (weighted_sum-none (λ row. row.least) (all_rows m cuts) n) shares
-
--- the least value over a box is within the greatest width
-pub least_value_small : (m : ModelParts) (s : Sides) → IsModel m → IsWithinReach m.root s → unsigned_abs (least_value m s) ≤ 2 ^ 50
-least_value_small m s valid within =
-    let n = length m.costs in
-    let size = unsigned_abs-int_sum_below n (least_share m s) (λ j. part_width s (int_at m.costs j) j) (λ j h. share_small s (int_at m.costs j) j) in
-    let nearer = sum_below-le n (λ j. part_width s (int_at m.costs j) j) (λ j. part_width m.root (int_at m.costs j) j) (λ j h.
-    let known : j < length s.lows = omega (arith, valid.bounds.costs, valid.bounds.box, within.columns) in
-    mul-le-mul_left (unsigned_abs (int_at m.costs j)) (reach-le m.root s j within known))
-    in
-    omega (arith, size, nearer, model_costs_narrow m m m.costs refl refl valid)

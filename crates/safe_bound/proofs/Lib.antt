@@ -1,5 +1,4 @@
 pub mod Weighted
-pub mod Reaching
 pub mod Safety
 pub mod Sizes
 pub mod Lowering

@@ -12,19 +12,17 @@ use Rattle.ip_core.specs.declared.model.ModelParts.{ModelParts}
 use Rattle.ip_core.specs.declared.row.Row.{Row}
 use Rattle.ip_core.specs.declared.row.Term.{Term}
 use Rattle.ip_core.proofs.IntSums.{unsigned_abs-int_sum_below, unsigned_abs-add_le}
+use Rattle.ip_core.proofs.Reaching.{reach-le}
 use Rattle.ip_core.proofs.Widths.{part_within_width, model_costs_narrow}
 use Rattle.safe_bound.specs.Weights.{weighted_least}
 use Rattle.safe_bound.specs.Bounds.{all_rows, reduced_cost, share, numerator}
 use Rattle.safe_bound.specs.Laws.{NumeratorIsSmall}
-use Rattle.safe_bound.specs.Premises.{AreCuts, AreLight, AreLightTerms, AreSmall, HasNarrowLeasts, IsWithinReach, shares_width}
+use Rattle.safe_bound.specs.Premises.{AreCuts, AreLight, AreLightTerms, AreSmall, HasNarrowLeasts, shares_width}
+use Rattle.ip_core.specs.Boxes.{IsWithinReach}
 use Rattle.ip_core.proofs.ColumnSums.{int_sum_below-same, sum_below-le}
 use Rattle.safe_bound.proofs.Sizes.{weighted_narrow}
 use Rattle.safe_bound.proofs.Shares.{part_within_sum, share_small}
 use Rattle.safe_bound.proofs.Columns.{reduced_small}
-
--- a column reaches no further than in the root box
-pub reach-le : (root s : Sides) (j : ℕ) → IsWithinReach root s → j < length s.lows → reach s j ≤ reach root j
-reach-le root s j within known = omega (arith, within.lows j known, within.highs j known)
 
 -- a cost of a model is within the greatest width
 pub cost_narrow : (m : ModelParts) (j : ℕ) → IsModel m → j < length m.costs → unsigned_abs (int_at m.costs j) ≤ 2 ^ 50
@@ -58,8 +56,7 @@ shares_reduced : (m : ModelParts) (cuts : List Row) (s : Sides) (ys : List ℕ) 
 shares_reduced m cuts s ys valid cut_rows within small =
     let n = length m.costs in
     let nearer = sum_below-le n (λ j. unsigned_abs (reduced_cost m cuts ys j) * reach s j) (λ j. unsigned_abs (reduced_cost m cuts ys j) * reach m.root j) (λ j h.
-    let known : j < length s.lows = omega (arith, valid.bounds.costs, valid.bounds.box, within.columns) in
-    mul-le-mul_left (unsigned_abs (reduced_cost m cuts ys j)) (reach-le m.root s j within known))
+    mul-le-mul_left (unsigned_abs (reduced_cost m cuts ys j)) (reach-le m.root s j within))
     in
     omega (arith, nearer, reduced_small m cuts ys valid cut_rows small)
 

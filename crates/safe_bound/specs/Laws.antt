@@ -7,7 +7,8 @@ use Rattle.ip_core.specs.Truth.{value_at}
 use Rattle.ip_core.specs.declared.model.ModelParts.{ModelParts}
 use Rattle.ip_core.specs.declared.row.Row.{Row}
 use Rattle.safe_bound.specs.Bounds.{all_rows, numerator, lagrangian_bound}
-use Rattle.safe_bound.specs.Premises.{AreSmall, IsWithinReach}
+use Rattle.safe_bound.specs.Premises.{AreSmall}
+use Rattle.ip_core.specs.Boxes.{IsWithinReach}
 
 -- at any multipliers, no point of the box that meets the rows and the cuts has a value below the bound
 abbrev pub BoundIsSafe : Type 0

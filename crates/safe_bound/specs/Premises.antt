@@ -14,13 +14,6 @@ pub record AreCuts (m : ModelParts) (cuts : List Row) : Type 0 where
   pub rows : AreRows (length m.cols) m.root cuts
   pub few : length cuts ≤ 2 ^ 30
 
--- a box with the columns of the root box, both ends of each no further from 0 than the root box reaches there;
--- so is each box within the root box that has no empty column, and the root box itself, also where a column is empty
-pub record IsWithinReach (root s : Sides) : Type 0 where
-  pub columns : length s.lows ≡ length root.lows
-  pub lows : (j : ℕ) → j < length s.lows → unsigned_abs (int_at s.lows j) ≤ reach root j
-  pub highs : (j : ℕ) → j < length s.lows → unsigned_abs (int_at s.highs j) ≤ reach root j
-
 -- each multiplier is at most 2^40
 pub record AreSmall (ys : List ℕ) : Type 0 where
   pub each : All (λ y. y ≤ MAX_MULTIPLIER) ys

@@ -2,7 +2,8 @@ ghost use Rattle.std.specs.Prelude.{ℕ, ◌≡◌, ◌<◌, ◌≤◌, ◌^◌,
 ghost use Rattle.ip_core.specs.Numbers.{int_at};
 ghost use Rattle.ip_core.specs.Quotients.{ceiling_quotient};
 ghost use Rattle.safe_bound.specs.Bounds.{bound_point, lagrangian_bound, numerator, reduced_cost};
-ghost use Rattle.safe_bound.specs.Premises.{AreCuts, AreMultipliers, IsWithinReach};
+ghost use Rattle.safe_bound.specs.Premises.{AreCuts, AreMultipliers};
+ghost use Rattle.ip_core.specs.Boxes.{IsWithinReach};
 
 use crate::costs::{cheapest_end, least, reduce, shares};
 use crate::limits::SCALE;

@@ -1,6 +1,6 @@
 use Rattle.std.proofs.Common.{◌≡◌, ◌∙◌, length, ap}
 use Rattle.ip_core.specs.Models.{IsModel}
-use Rattle.dual_ascent.proofs.RowLengths.{rows_short}
+use Rattle.ip_core.proofs.RisingColumns.{rows_short}
 use Rattle.dual_ascent.proofs.work.round_work.Goals as goal
 
 pub term_count-requires-clause-short : goal.term_count-requires-clause-short
