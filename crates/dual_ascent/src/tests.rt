@@ -230,6 +230,7 @@ fn agrees(alloc: Global, plain: Plain, terms: u64) -> Result<bool, Fail> {
 }
 
 /// Draws of a linear congruence, which give the same numbers each time.
+#[derive(Drop)]
 struct Draws {
     state: u64,
 }
