@@ -144,17 +144,19 @@ fn keeps_to_its_limits(rt: HostRuntime) -> Result<(), Fail> {
     Ok(())
 }
 
-/// The numerator over dense rows, which may stand twice.
-fn slow_numerator(plain: Plain, mults: &[u64]) -> i128 {
+/// The numerator over dense rows, which may stand twice, where row i has another multiplier.
+fn slow_numerator(plain: Plain, mults: &[u64], i: usize, mult: u64) -> i128 {
     let mut sum = 0i128;
-    for ((_, least), mult) in plain.rows.iter().zip(mults) {
-        sum = sum.wrapping_add(i128::from(*mult).wrapping_mul(i128::from(*least)));
+    for (k, (_, least)) in plain.rows.iter().enumerate() {
+        let own = i128::from(slow_multiplier(mults, k, i, mult));
+        sum = sum.wrapping_add(own.wrapping_mul(i128::from(*least)));
     }
     for (j, (low, high)) in plain.lows.iter().zip(plain.highs).enumerate() {
         let mut reduced = i128::from(plain.costs.get(j).copied().unwrap_or(0)).wrapping_mul(1_024);
-        for ((coefs, _), mult) in plain.rows.iter().zip(mults) {
+        for (k, (coefs, _)) in plain.rows.iter().enumerate() {
             let coef = i128::from(coefs.get(j).copied().unwrap_or(0));
-            reduced = reduced.wrapping_sub(coef.wrapping_mul(i128::from(*mult)));
+            let own = i128::from(slow_multiplier(mults, k, i, mult));
+            reduced = reduced.wrapping_sub(coef.wrapping_mul(own));
         }
         let at_low = reduced.wrapping_mul(i128::from(*low));
         let at_high = reduced.wrapping_mul(i128::from(*high));
@@ -163,29 +165,28 @@ fn slow_numerator(plain: Plain, mults: &[u64]) -> i128 {
     sum
 }
 
+/// The multiplier of row k, where row i has another one.
+fn slow_multiplier(mults: &[u64], k: usize, i: usize, mult: u64) -> u64 {
+    if k == i {
+        mult
+    } else {
+        mults.get(k).copied().unwrap_or(0)
+    }
+}
+
 /// A row's next multiplier, found from the last candidate to the first.
-fn slow_choice(
-    alloc: Global,
-    plain: Plain,
-    mults: &[u64],
-    i: usize,
-    step_size: u64,
-) -> Result<u64, Fail> {
+fn slow_choice(plain: Plain, mults: &[u64], i: usize, step_size: u64) -> u64 {
     let own = mults.get(i).copied().unwrap_or(0);
     let raised = own.saturating_add(step_size).min(MAX_MULTIPLIER);
     let mut best = None;
     for candidate in [0, own.saturating_sub(step_size), raised, own] {
-        let mut tried = Vec::from_slice(alloc, mults)?;
-        if let Some(place) = tried.get_mut(i) {
-            *place = candidate;
-        }
-        let worth = slow_numerator(plain, &tried);
+        let worth = slow_numerator(plain, mults, i, candidate);
         best = match best {
             Some((greatest, kept)) if greatest > worth => Some((greatest, kept)),
             _ => Some((worth, candidate)),
         };
     }
-    Ok(best.map_or(0, |(_, kept)| kept))
+    best.map_or(0, |(_, kept)| kept)
 }
 
 /// The multipliers of an ascent and its rounds.
@@ -208,7 +209,7 @@ fn slow_ascent(alloc: Global, plain: Plain) -> Result<(Vec<u64>, u64), Fail> {
         }
         let before = mults.clone()?;
         for i in 0..before.len() {
-            let next = slow_choice(alloc, plain, &mults, i, step_size)?;
+            let next = slow_choice(plain, &mults, i, step_size);
             if let Some(place) = mults.get_mut(i) {
                 *place = next;
             }
@@ -269,14 +270,9 @@ fn agrees_drawn(alloc: Global, seed: u64) -> Result<bool, Fail> {
     ];
     let first = draws.numbers(scale);
     let second = draws.numbers(scale);
-    let third = draws.numbers(scale);
     let leasts = draws.numbers(scale);
-    let rows: [(&[i64], i64); 3] = [
-        (&first, leasts[0]),
-        (&second, leasts[1]),
-        (&third, leasts[2]),
-    ];
-    let twice = [rows[0], rows[1], rows[2], rows[0], rows[1], rows[2]];
+    let rows: [(&[i64], i64); 2] = [(&first, leasts[0]), (&second, leasts[1])];
+    let twice = [rows[0], rows[1], rows[0], rows[1]];
     let plain = Plain {
         costs: &costs,
         lows: &lows,
