@@ -18,7 +18,7 @@ use Rattle.xsearch_words.specs.declared.tune.Tune.{Tune}
 use Rattle.xsearch.specs.Answer.{answer_text}
 use Rattle.xsearch.specs.FileAnswers.{IsTrueOfFile}
 use Rattle.xsearch.specs.ModelFiles.{IsFileJob}
-use Rattle.xsearch.specs.Searches.{limits_of, searched}
+use Rattle.xsearch.specs.Searches.{limits_of, machine_answer}
 use Rattle.xsearch.specs.declared.outcome.PrintedAnswer.{PrintedAnswer}
 use Rattle.xsearch.specs.declared.outcome.Outcome.{Outcome}
 use Rattle.xsearch.specs.declared.outcome.Outcome.TheVariants.{Answered, Printed}
@@ -30,7 +30,7 @@ use Rattle.xsearch.specs.declared.outcome.Failure.TheVariants.{Words, Model, Mem
 -- model, and a status of a limit has its cause in the slots.
 pub record IsAnswer (m : ModelParts) (tune : Tune) (answer : Answer)
     (print : PrintedAnswer) : Type 0 where
-  pub machine : answer ≡ searched m tune
+  pub machine : answer ≡ machine_answer m tune
   pub status : print.status ≡ answer.status
   pub text : print.text ≡ answer_text m answer.status answer.best
   pub truth : IsTrueAnswer m answer

@@ -12,5 +12,5 @@ abbrev pub limits_of : Tune → Limits
 limits_of tune = record { slots = tune.tasks; work = tune.work; store = tune.store }
 
 -- the answer of the machine's history of the plain search: how it ended, and the first found point of least value
-abbrev pub searched : ModelParts → Tune → Answer
-searched m tune = answer_of m (history (rules m) (limits_of tune)).entries
+abbrev pub machine_answer : ModelParts → Tune → Answer
+machine_answer m tune = answer_of m (history (rules m) (limits_of tune)).entries

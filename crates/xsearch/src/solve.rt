@@ -6,7 +6,7 @@ ghost use Rattle.width_admit.specs.Admission.{IsCause};
 ghost use Rattle.xsearch.specs.Causes.{IsAnswer, IsSolved, IsSolvedFile};
 ghost use Rattle.xsearch.specs.ModelFiles.{IsFileJob, IsSmall};
 ghost use Rattle.xsearch.specs.Runs.{Runs};
-ghost use Rattle.xsearch.specs.Searches.{limits_of as limits_of_tune, searched};
+ghost use Rattle.xsearch.specs.Searches.{limits_of as limits_of_tune, machine_answer};
 ghost use Rattle.xsearch_words.specs.Jobs.{IsSolveJob};
 ghost use Rattle.xsearch_words.specs.Tunes.{IsTune};
 
@@ -101,7 +101,7 @@ fn refuse(
 #[tactic(auto, using(crate::proofs::TrueAnswers::one_each))]
 fn answer(alloc: Global, model: Model, tune: &Tune) -> Result<PrintedAnswer, OutOfMemory>
     requires { IsTune tune.now }
-    ensures { IfOk result (λ print. IsAnswer model tune.now (searched model tune.now) print) }
+    ensures { IfOk result (λ print. IsAnswer model tune.now (machine_answer model tune.now) print) }
 {
     let search = PlainSearch::of(model);
     let limits = limits_of(tune);
