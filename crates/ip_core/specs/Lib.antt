@@ -4,6 +4,7 @@ pub mod Names
 pub mod Sides
 pub mod Rows
 pub mod Models
+pub mod Dense
 pub mod Truth
 pub mod Boxes
 pub mod Decimals

@@ -6,6 +6,7 @@
 
 mod bounds;
 pub mod decimal;
+pub mod dense;
 mod derivation;
 mod feasible;
 mod leaf;
