@@ -21,6 +21,7 @@ use Rattle.stamp_machine.proofs.Choices.{by_test}
 use Rattle.stamp_machine.proofs.Follows.{view_after-append}
 use Rattle.stamp_machine.proofs.Least.{next_is, none_lives}
 use Rattle.stamp_machine.proofs.Orders.{set_each}
+use Rattle.stamp_machine.proofs.Places.{at-append, at-front, at-behind, none_is_no_some, same_some}
 use Rattle.stamp_machine.proofs.Standings.{fresh_at}
 
 -- ---- Halts among entries
@@ -62,12 +63,6 @@ halt_is (Split node col at first keep bound) h = absurd (false≢true h)
 halt_is (Closed node) h = absurd (false≢true h)
 halt_is Halt h = refl
 
-same_some : {A : Type 0} (x y : A) → Some x ≡ Some y → x ≡ y
-same_some x y e = cc
-
-none_is_no_some : {A : Type 0} (x : A) → None ≡ Some x → ⊥
-none_is_no_some x e = cc
-
 some_is_no_none : {A : Type 0} (x : A) → Some x ≡ None → ⊥
 some_is_no_none x e = cc
 
@@ -89,21 +84,7 @@ under_halt : (k : Key) (es : List Entry) → has_halt es ≡ true → HasHalt (u
 under_halt k [] h = absurd (false≢true h)
 under_halt k (x ∷ es) h = place_of k x es (is_halt x) refl h (under_halt k es)
 
--- ---- places in a longer list
-
-at-append : {A : Type 0} (xs ys : List A) (place : ℕ) (x : A) → at (xs ++ ys) place ≡ Some x → (at xs place ≡ Some x) ⊎ ((later : ℕ) × (at ys later ≡ Some x))
-at-append [] ys place x e = inr (place, e)
-at-append (z ∷ xs) ys zero x e = inl e
-at-append (z ∷ xs) ys (suc place) x e = at-append xs ys place x e
-
-at-front : {A : Type 0} (xs ys : List A) (place : ℕ) (x : A) → at xs place ≡ Some x → at (xs ++ ys) place ≡ Some x
-at-front [] ys place x e = absurd (none_is_no_some x e)
-at-front (z ∷ xs) ys zero x e = e
-at-front (z ∷ xs) ys (suc place) x e = at-front xs ys place x e
-
-at-behind : {A : Type 0} (xs ys : List A) (place : ℕ) (x : A) → at ys place ≡ Some x → (later : ℕ) × (at (xs ++ ys) later ≡ Some x)
-at-behind [] ys place x e = (place, e)
-at-behind (z ∷ xs) ys place x e = let r = at-behind xs ys place x e in (suc r.0, r.1)
+-- ---- Halts in a longer history
 
 halt_in_front : (xs ys : List KeyedEntry) (k : Key) → HasHalt xs k → HasHalt (xs ++ ys) k
 halt_in_front xs ys k h = record { place = h.place; there = at-front xs ys h.place (keyed_entry k Halt) h.there }

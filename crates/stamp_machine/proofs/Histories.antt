@@ -42,7 +42,7 @@ module _ (V L : Type 0) (r : Rules V L) (FitsView : V → Type 0) (FitsLocal : L
   rises n number slot next there =
       let x = next_is (moves r limits n).slots number next in
       let same = same_next n number slot next there in
-      (kept V L r FitsView FitsLocal MayFollow Agrees law limits ranges (moves r limits n) (moves_stand V L r FitsView FitsLocal MayFollow Agrees law limits ranges n) number slot x.live there (ap (λ (y : Slot L). y.live) (sym same) ∙ x.lives)).risen
+      (kept V L r FitsView FitsLocal MayFollow Agrees law limits ranges (moves r limits n) (moves_stand V L r FitsView FitsLocal MayFollow Agrees law limits ranges n) number slot x.live there (ap (λ (y : Slot L). y.live) (sym same) ∙ x.lives)).rises
 
   pub stops_law : HasLastMove r limits
   stops_law = record {

@@ -16,3 +16,4 @@ pub mod Merges
 pub mod Occurrences
 pub mod Keeping
 pub mod Endings
+pub mod Records

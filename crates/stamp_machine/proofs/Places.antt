@@ -1,5 +1,5 @@
 -- Items at places of a list.
-use Rattle.std.proofs.Common.{◌≡◌, ℕ, zero, suc, ◌<◌, List, [], ◌∷◌, length, map, set, get_or, Option, Some, None, refl, ap, subst, arith}
+use Rattle.std.proofs.Common.{◌≡◌, ℕ, zero, suc, ◌<◌, ◌⊎◌, inl, inr, List, [], ◌∷◌, ◌++◌, length, map, set, get_or, Option, Some, None, refl, ap, subst, arith}
 use Rattle.stamp_machine.specs.Slots.{at}
 
 pub at-get_or : {A : Type 0} (d : A) (xs : List A) (k : ℕ) (x : A) → at xs k ≡ Some x → get_or xs k d ≡ x
@@ -12,7 +12,10 @@ at-map f [] k x e = cc
 at-map f (y ∷ xs) zero x e = cc
 at-map f (y ∷ xs) (suc k) x e = at-map f xs k x e
 
-none_is_no_some : {A : Type 0} (x : A) → None ≡ Some x → ⊥
+pub same_some : {A : Type 0} (x y : A) → Some x ≡ Some y → x ≡ y
+same_some x y e = cc
+
+pub none_is_no_some : {A : Type 0} (x : A) → None ≡ Some x → ⊥
 none_is_no_some x e = cc
 
 pub at-length : {A : Type 0} (xs : List A) (k : ℕ) (x : A) → at xs k ≡ Some x → k < length xs
@@ -65,3 +68,18 @@ set_all P (z ∷ xs) zero y each new zero x e = let q : y ≡ x = cc in subst P 
 set_all P (z ∷ xs) zero y each new (suc j) x e = each (suc j) x e
 set_all P (z ∷ xs) (suc k) y each new zero x e = each zero x e
 set_all P (z ∷ xs) (suc k) y each new (suc j) x e = set_all P xs k y (λ i w h. each (suc i) w h) new j x e
+
+-- places in a longer list
+pub at-append : {A : Type 0} (xs ys : List A) (place : ℕ) (x : A) → at (xs ++ ys) place ≡ Some x → (at xs place ≡ Some x) ⊎ ((later : ℕ) × (at ys later ≡ Some x))
+at-append [] ys place x e = inr (place, e)
+at-append (z ∷ xs) ys zero x e = inl e
+at-append (z ∷ xs) ys (suc place) x e = at-append xs ys place x e
+
+pub at-front : {A : Type 0} (xs ys : List A) (place : ℕ) (x : A) → at xs place ≡ Some x → at (xs ++ ys) place ≡ Some x
+at-front [] ys place x e = absurd (none_is_no_some x e)
+at-front (z ∷ xs) ys zero x e = e
+at-front (z ∷ xs) ys (suc place) x e = at-front xs ys place x e
+
+pub at-behind : {A : Type 0} (xs ys : List A) (place : ℕ) (x : A) → at ys place ≡ Some x → (later : ℕ) × (at (xs ++ ys) later ≡ Some x)
+at-behind [] ys place x e = (place, e)
+at-behind (z ∷ xs) ys place x e = let r = at-behind xs ys place x e in (suc r.0, r.1)

@@ -38,9 +38,9 @@ module _ (V L : Type 0) (r : Rules V L) (FitsView : V → Type 0) (FitsLocal : L
       subst (λ h. FitsView (view_of r h)) (append_assoc history (e ∷ []) es) (views_fit (history ++ e ∷ []) es (omega arith) next follow.1)
 
   -- what is pending joins, one entry after the other
-  record AllJoin (history : List KeyedEntry) (slots : List (Option (Standing L))) (number : ℕ) (k : Key) (l : L) (es : List Entry) : Type 0 where
-    follow : FollowInTurn MayFollow history (under k es)
-    agrees : Agrees (history ++ under k es) (set slots number (standing l []))
+  pub record AllJoin (history : List KeyedEntry) (slots : List (Option (Standing L))) (number : ℕ) (k : Key) (l : L) (es : List Entry) : Type 0 where
+    pub follow : FollowInTurn MayFollow history (under k es)
+    pub agrees : Agrees (history ++ under k es) (set slots number (standing l []))
 
   all_join : (history : List KeyedEntry) (slots : List (Option (Standing L))) (number : ℕ) (k : Key) (l : L) (es : List Entry) →
       length history + length es < 2 ^ 31 → Agrees history slots → get_or slots number None ≡ standing l es → AllJoin history slots number k l es
@@ -82,7 +82,7 @@ module _ (V L : Type 0) (r : Rules V L) (FitsView : V → Type 0) (FitsLocal : L
         follow = tt;
         agrees = subst (λ h. Agrees h (set slots number None)) (sym (append-nil history)) (law.slot_leaves history slots number (omega (arith, can.room)) can.agrees);
         fits = tt;
-        risen = tt;
+        rises = tt;
         left = omega arith;
         few = omega arith;
         store = can.store;
@@ -95,22 +95,22 @@ module _ (V L : Type 0) (r : Rules V L) (FitsView : V → Type 0) (FitsLocal : L
             follow = (law.halt_follows history slots few can.agrees, tt);
             agrees = law.halt_joins history (set slots number None) (key_of number old) few (law.slot_leaves history slots number few can.agrees);
             fits = tt;
-            risen = tt;
+            rises = tt;
             left = omega arith;
             few = omega arith;
             store = can.store;
           }
 
       -- what is pending fits, and joins
-      record Joined : Type 0 where
-        all : AllJoin history slots number (key_of number old) live.local live.pending
-        there : get_or (set slots number (standing live.local [])) number None ≡ standing live.local []
-        short : length (history ++ under (key_of number old) live.pending) + (limits.store - (slot_after_join old live).words) < 2 ^ 31
-        store : (slot_after_join old live).words ≤ limits.store - 4
-        view : FitsView (view_after r (view_of r history) (under (key_of number old) live.pending))
-        is_view : view_after r (view_of r history) (under (key_of number old) live.pending) ≡ view_of r (history ++ under (key_of number old) live.pending)
+      pub record Joined : Type 0 where
+        pub all : AllJoin history slots number (key_of number old) live.local live.pending
+        pub there : get_or (set slots number (standing live.local [])) number None ≡ standing live.local []
+        pub short : length (history ++ under (key_of number old) live.pending) + (limits.store - (slot_after_join old live).words) < 2 ^ 31
+        pub store : (slot_after_join old live).words ≤ limits.store - 4
+        pub view : FitsView (view_after r (view_of r history) (under (key_of number old) live.pending))
+        pub is_view : view_after r (view_of r history) (under (key_of number old) live.pending) ≡ view_of r (history ++ under (key_of number old) live.pending)
 
-      joins : fits limits old.words live.pending ≡ true → Joined
+      pub joins : fits limits old.words live.pending ≡ true → Joined
       joins fit =
           let within : old.words + word_count live.pending ≤ limits.store - 4 = grind arith in
           let words = some_words live.pending in
@@ -143,7 +143,7 @@ module _ (V L : Type 0) (r : Rules V L) (FitsView : V → Type 0) (FitsLocal : L
             follow = follow;
             agrees = subst (Agrees (history ++ under (key_of number old) entries)) (set-set slots number (standing l []) (standing (r.chunk l).local (r.chunk l).gives.entries)) next;
             fits = record { local = law.chunk_fits l f turn_after_begin; words = law.chunk_words l f turn_after_begin };
-            risen = omega (arith, clock, work);
+            rises = omega (arith, clock, work);
             left = omega (arith, clock, work, lives);
             few = omega (arith, few);
             store = store;
@@ -161,7 +161,7 @@ module _ (V L : Type 0) (r : Rules V L) (FitsView : V → Type 0) (FitsLocal : L
             follow = j.all.follow;
             agrees = j.all.agrees;
             fits = record { local = can.fits.local; words = record { each = λ k d h. absurd (omega arith) } };
-            risen = omega arith;
+            rises = omega arith;
             left = omega (arith, lives);
             few = omega arith;
             store = j.store;
@@ -175,7 +175,7 @@ module _ (V L : Type 0) (r : Rules V L) (FitsView : V → Type 0) (FitsLocal : L
             follow = j.all.follow;
             agrees = subst (Agrees (history ++ under (key_of number old) live.pending)) (set-set slots number (standing live.local []) None) left;
             fits = tt;
-            risen = tt;
+            rises = tt;
             left = omega arith;
             few = omega arith;
             store = j.store;
@@ -196,7 +196,7 @@ module _ (V L : Type 0) (r : Rules V L) (FitsView : V → Type 0) (FitsLocal : L
                 (follow-append MayFollow history (under (key_of number old) live.pending) (keyed_entry (key_of number old) Halt ∷ []) j.all.follow (law.halt_follows _ _ few j.all.agrees, tt));
             agrees = subst (λ h. Agrees h (set slots number None)) whole (subst (Agrees _) (set-set slots number (standing live.local []) None) halted);
             fits = tt;
-            risen = tt;
+            rises = tt;
             left = omega arith;
             few = omega (arith, length-append live.pending (Halt ∷ []));
             store = j.store;

@@ -48,7 +48,7 @@ pub record IsKept {V L : Type 0} (r : Rules V L) (FitsLocal : L → Type 0)
   pub agrees : Agrees (history ++ under (key_of number old) t.entries)
       (set slots number (standing_of t.slot))
   pub fits : IsFittingWhileLive FitsLocal t.slot.live
-  pub risen : HasRisen old t.slot
+  pub rises : HasRisen old t.slot
   pub left : moves_left limits t.slot ≤ limits.work - old.clock
   pub few : length t.entries + old.words ≤ tally t.slot
   pub store : t.slot.words ≤ limits.store - 4

@@ -10,3 +10,4 @@ pub mod Merges
 pub mod Relay
 pub mod RelayLaw
 pub mod Endings
+pub mod Records

@@ -1,5 +1,5 @@
--- A small system of tasks for tests. Three tasks are taken in all, each by the slot that finds fewer than three begin_of. A
--- task has two chunks: one finds a point, the other ends the task. A slot that finds three tasks begin_of waits until all
+-- A small system of tasks for tests. Three tasks are taken in all, each by the slot that finds fewer than three begun. A
+-- task has two chunks: one finds a point, the other ends the task. A slot that finds three tasks begun waits until all
 -- three have ended.
 use Rattle.std.specs.Prelude.{ℕ, zero, suc, ◌+◌, ◌≤◌, ◌<◌, nat_eq, nat_lt, if◌then◌else◌, pos, List, [], ◌∷◌, replicate, Option, Some, None}
 use Rattle.ip_core.specs.declared.leaf.Closing.TheVariants.{Empty}
@@ -14,7 +14,7 @@ use Rattle.work_stamp.specs.declared.task.Begin.TheVariants.{Take, Idle, End}
 abbrev pub one_more : ℕ → ℕ
 one_more n = if nat_lt n 3 then n + 1 else n
 
--- how many tasks have begin_of and how many have ended, each counted up to three
+-- how many tasks have begun and how many have ended, each counted up to three
 abbrev pub counts_after : ℕ × ℕ → Entry → ℕ × ℕ
 counts_after counts (Start node) = (one_more counts.0, counts.1)
 counts_after counts Done = (counts.0, one_more counts.1)
@@ -78,7 +78,7 @@ abbrev pub ends : Entry → ℕ
 ends Done = 1
 ends entry = 0
 
--- how many tasks have begin_of in a history
+-- how many tasks have begun in a history
 abbrev pub start_count : List KeyedEntry → ℕ
 start_count [] = 0
 start_count (e ∷ es) = starts e.entry + start_count es
@@ -88,7 +88,7 @@ abbrev pub end_count : List KeyedEntry → ℕ
 end_count [] = 0
 end_count (e ∷ es) = ends e.entry + end_count es
 
--- a task may end where fewer have ended than begin_of, and every other entry may follow
+-- a task may end where fewer have ended than begun, and every other entry may follow
 abbrev pub MayFollow : List KeyedEntry → Entry → Type 0
 MayFollow history Done = end_count history < start_count history
 MayFollow history entry = Unit {0}

@@ -40,29 +40,29 @@ seen_counts counts Halt c = c
 one_word : (e : Entry) → HasWords e → HaveWords (e ∷ [])
 one_word e h = record { each = All-cons HasWords e [] h (All-nil HasWords) }
 
-nothing_signed : IsSigned (pos 0)
-nothing_signed = record { sfits = omega arith }
+zero_is_signed : IsSigned (pos 0)
+zero_is_signed = record { sfits = omega arith }
 
 found_words : HasWords found_entry
 found_words = record {
   writable = omega arith;
   in_range = record {
-    signed_value = nothing_signed;
+    signed_value = zero_is_signed;
     each = λ k d h.
-        grind (arith, common_steps, nothing_signed);
+        grind (arith, common_steps, zero_is_signed);
   };
 }
 
-started-append : (xs ys : List KeyedEntry) →
+start_count-append : (xs ys : List KeyedEntry) →
     start_count (xs ++ ys) ≡ start_count xs + start_count ys
-started-append [] ys = omega arith
-started-append (x ∷ xs) ys = omega (arith, started-append xs ys)
+start_count-append [] ys = omega arith
+start_count-append (x ∷ xs) ys = omega (arith, start_count-append xs ys)
 
-finished-append : (xs ys : List KeyedEntry) → end_count (xs ++ ys) ≡ end_count xs + end_count ys
-finished-append [] ys = omega arith
-finished-append (x ∷ xs) ys = omega (arith, finished-append xs ys)
+end_count-append : (xs ys : List KeyedEntry) → end_count (xs ++ ys) ≡ end_count xs + end_count ys
+end_count-append [] ys = omega arith
+end_count-append (x ∷ xs) ys = omega (arith, end_count-append xs ys)
 
--- what is due_ends after a slot has changed
+-- what is due after a slot has changed
 due-set : (slots : List (Option (Standing ℕ))) (k : ℕ) (old : Standing ℕ)
     (new : Option (Standing ℕ)) → get_or slots k None ≡ Some old →
     all_due_ends (set slots k new) + due_ends (Some old) ≡ all_due_ends slots + due_ends new
@@ -137,9 +137,9 @@ pending_joins history slots slot k l e es a there = record {
   enough = omega (
     arith,
     a.enough,
-    finished-append history
+    end_count-append history
         (keyed_entry k e ∷ []),
-    started-append history (keyed_entry k e ∷ []),
+    start_count-append history (keyed_entry k e ∷ []),
     due-set slots slot
         (record { local = l; pending = e ∷ es }) (standing l es) there,
   );
@@ -153,9 +153,9 @@ start_joins history slots slot k l n a there = record {
   enough = omega (
     arith,
     a.enough,
-    finished-append history
+    end_count-append history
         (keyed_entry k (Start n) ∷ []),
-    started-append history
+    start_count-append history
         (keyed_entry k (Start n) ∷ []),
     due-set slots slot (record { local = l; pending = [] })
         (standing 2 []) there,
@@ -184,9 +184,9 @@ halt_joins history slots k a = record {
       omega (
         arith,
         a.enough,
-        finished-append history
+        end_count-append history
             (keyed_entry k Halt ∷ []),
-        started-append history (keyed_entry k Halt ∷ []),
+        start_count-append history (keyed_entry k Halt ∷ []),
       );
 }
 

@@ -4,6 +4,7 @@ ghost use Rattle.stamp_machine.specs.Limits.{AreLimits};
 ghost use Rattle.stamp_machine.specs.Machine.{final};
 ghost use Rattle.stamp_machine.specs.Merges.{HasLeastFirst, AreSame, HasSides, AreUnread};
 ghost use Rattle.stamp_machine.specs.Orders.{IsSorted};
+ghost use Rattle.stamp_machine.specs.Records.{EntriesHaveOrigins, RecordsHaveChunks};
 ghost use Rattle.ip_core.specs.Seq.{Seq};
 ghost use Rattle.std.specs.Prelude.{◌∷◌, ℕ};
 ghost use Rattle.work_stamp.specs.declared.key.Key.{Key};
@@ -109,6 +110,23 @@ pub fn ends_have_causes<T: Tasker>(tasker: &T, limits: &Limits)
     requires ranges { AreLimits limits.now }
     requires no_halt { HasNoOwnHalt (T.rules tasker.now) }
     ensures { EndsHaveCauses (T.rules tasker.now) limits.now }
+{}
+
+/// A law of the machine, with nothing to run: each record of a slot is one of a chunk that the slot ran. Then history and slots
+/// agreed, and the slot stood at a local that had begun a task, with nothing pending. All entries of that chunk are in the
+/// history, so what a slot drops leaves no record.
+pub fn records_have_chunks<T: Tasker>(tasker: &T, limits: &Limits)
+    requires { AreLimits limits.now }
+    ensures { RecordsHaveChunks (T.rules tasker.now) (T.fits_local tasker.now)
+        (T.agrees tasker.now) limits.now }
+{}
+
+/// A law of the machine, with nothing to run: each entry of the history is a Halt, or one of a task that the slot took on the
+/// view of the history before it, or one of a chunk that the slot ran. All records of that chunk are among the slot's.
+pub fn entries_have_origins<T: Tasker>(tasker: &T, limits: &Limits)
+    requires { AreLimits limits.now }
+    ensures { EntriesHaveOrigins (T.rules tasker.now) (T.fits_local tasker.now)
+        (T.agrees tasker.now) limits.now }
 {}
 
 /// A law of histories, with nothing to run: of another slot, what lies below a key is what it has published up to the key's

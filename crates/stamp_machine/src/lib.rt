@@ -17,10 +17,11 @@ mod turn;
 
 pub use history::History;
 pub use laws::{
-    clocks_rise, ends_are_known, ends_have_causes, halts_have_causes, history_is_sorted,
-    keys_part_by_slots, keys_rise, least_key_is_first, lesser_keys_are_before, live_locals_fit,
-    live_slots_are_chosen, logs_are_known, machine_stops, moves_are_in_front, moves_keep_the_laws,
-    running_tasks_read_nothing, slots_play_by_the_history, sorted_histories_are_same,
+    clocks_rise, ends_are_known, ends_have_causes, entries_have_origins, halts_have_causes,
+    history_is_sorted, keys_part_by_slots, keys_rise, least_key_is_first, lesser_keys_are_before,
+    live_locals_fit, live_slots_are_chosen, logs_are_known, machine_stops, moves_are_in_front,
+    moves_keep_the_laws, records_have_chunks, running_tasks_read_nothing,
+    slots_play_by_the_history, sorted_histories_are_same,
 };
 pub use limits::Limits;
 pub use run::run_alone;

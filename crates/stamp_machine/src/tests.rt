@@ -3,10 +3,11 @@ ghost use Rattle.stamp_machine.specs.Limits.{AreLimits};
 ghost use Rattle.stamp_machine.specs.Relay.{found_entry as found_of, leaf as leaf_of, one_more as one_more_of};
 
 use crate::{
-    History, Limits, clocks_rise, ends_are_known, history_is_sorted, keys_part_by_slots, keys_rise,
-    least_key_is_first, lesser_keys_are_before, live_locals_fit, live_slots_are_chosen,
-    logs_are_known, machine_stops, moves_are_in_front, moves_keep_the_laws, run_alone,
-    running_tasks_read_nothing, slots_play_by_the_history, sorted_histories_are_same,
+    History, Limits, clocks_rise, ends_are_known, entries_have_origins, history_is_sorted,
+    keys_part_by_slots, keys_rise, least_key_is_first, lesser_keys_are_before, live_locals_fit,
+    live_slots_are_chosen, logs_are_known, machine_stops, moves_are_in_front, moves_keep_the_laws,
+    records_have_chunks, run_alone, running_tasks_read_nothing, slots_play_by_the_history,
+    sorted_histories_are_same,
 };
 use ip_core::{Closing, Leaf, List, OutOfMemory, Point, Record};
 use std::alloc::Global;
@@ -236,6 +237,8 @@ fn laws_are_said_of_the_relay(_rt: HostRuntime) -> Result<(), Fail> {
     logs_are_known(&Relay, &limits);
     ends_are_known(&Relay, &limits);
     moves_are_in_front(&Relay, &limits);
+    records_have_chunks(&Relay, &limits);
+    entries_have_origins(&Relay, &limits);
     running_tasks_read_nothing(&Relay, &limits);
     keys_part_by_slots();
     least_key_is_first();

@@ -4,7 +4,7 @@ use Rattle.std.proofs.lemmas.Int.{of_z-to_z}
 use mir.Syntax.{w64}
 use Rattle.ip_core.specs.declared.leaf.Pair.{Pair}
 use Rattle.work_stamp.specs.Words.{signed_words, pair_words, signed_word, row_word}
-use Rattle.work_stamp.specs.Reads.{all_signed, signed}
+use Rattle.work_stamp.specs.Reads.{signed_numbers, signed_number}
 
 pub length-signed_words : (zs : List ℤ) → length (signed_words zs) ≡ length zs
 length-signed_words [] = refl
@@ -22,19 +22,19 @@ pub pair_words-append : (xs ys : List Pair) → pair_words (xs ++ ys) ≡ pair_w
 pair_words-append [] ys = refl
 pair_words-append (x ∷ xs) ys = ap (λ (r : List ℕ). row_word x.row ∷ x.weight ∷ r) (pair_words-append xs ys)
 
-pub all_signed-append : (xs ys : List ℕ) → all_signed (xs ++ ys) ≡ all_signed xs ++ all_signed ys
-all_signed-append [] ys = refl
-all_signed-append (x ∷ xs) ys = ap (λ (r : List ℤ). signed x ∷ r) (all_signed-append xs ys)
+pub signed_numbers-append : (xs ys : List ℕ) → signed_numbers (xs ++ ys) ≡ signed_numbers xs ++ signed_numbers ys
+signed_numbers-append [] ys = refl
+signed_numbers-append (x ∷ xs) ys = ap (λ (r : List ℤ). signed_number x ∷ r) (signed_numbers-append xs ys)
 
 -- a word that was read as a signed number gives that number again
-pub signed_again : (n : ℕ) (z : ℤ) → n < 2 ^ 64 → z ≡ signed n → signed (signed_word z) ≡ signed n
-signed_again n z h e = ap (λ (y : ℤ). signed (signed_word y)) e ∙ ap signed (of_z-to_z w64 n h)
+pub signed_again : (n : ℕ) (z : ℤ) → n < 2 ^ 64 → z ≡ signed_number n → signed_number (signed_word z) ≡ signed_number n
+signed_again n z h e = ap (λ (y : ℤ). signed_number (signed_word y)) e ∙ ap signed_number (of_z-to_z w64 n h)
 
-pub all_signed_more : (words : List ℕ) (i : ℕ) (values new : List ℤ) (z : ℤ) →
-    i < length words → get_or words i 0 < 2 ^ 64 → z ≡ signed (get_or words i 0) →
-    values ≡ all_signed (take i words) → new ≡ values ++ signed (signed_word z) ∷ [] → new ≡ all_signed (take (i + 1) words)
-all_signed_more words i values new z within fits e so_far pushed =
-    pushed ∙ ap (λ (y : ℤ). values ++ y ∷ []) (signed_again (get_or words i 0) z fits e) ∙ ap (λ (vs : List ℤ). vs ++ signed (get_or words i 0) ∷ []) so_far ∙ sym (all_signed-append (take i words) (get_or words i 0 ∷ [])) ∙ ap all_signed (sym (take_more words i 0 within))
+pub signed_numbers_more : (words : List ℕ) (i : ℕ) (values new : List ℤ) (z : ℤ) →
+    i < length words → get_or words i 0 < 2 ^ 64 → z ≡ signed_number (get_or words i 0) →
+    values ≡ signed_numbers (take i words) → new ≡ values ++ signed_number (signed_word z) ∷ [] → new ≡ signed_numbers (take (i + 1) words)
+signed_numbers_more words i values new z within fits e so_far pushed =
+    pushed ∙ ap (λ (y : ℤ). values ++ y ∷ []) (signed_again (get_or words i 0) z fits e) ∙ ap (λ (vs : List ℤ). vs ++ signed_number (get_or words i 0) ∷ []) so_far ∙ sym (signed_numbers-append (take i words) (get_or words i 0 ∷ [])) ∙ ap signed_numbers (sym (take_more words i 0 within))
 
 pub pair_words_more : (pairs : List Pair) (i : ℕ) (d : Pair) (start out middle new : List ℕ) (w : ℕ) →
     i < length pairs → w ≡ row_word (get_or pairs i d).row → out ≡ start ++ pair_words (take i pairs) →

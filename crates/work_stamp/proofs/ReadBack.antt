@@ -15,7 +15,7 @@ use Rattle.work_stamp.specs.declared.stamped.WordRead.{WordRead}
 use Rattle.work_stamp.specs.declared.error.WordsError.{WordsError}
 use Rattle.work_stamp.specs.declared.error.WordsError.TheVariants as Refused
 use Rattle.work_stamp.specs.Words.{signed_words, pair_words, signed_word, row_word, kind_word, further_words, words}
-use Rattle.work_stamp.specs.Reads.{all_signed, signed, pairs_of, row_of, are_rows, is_number, kind_of, kind_entry, entry_of, read, gomory_of, cover_of, cut_of, split_of, read_with}
+use Rattle.work_stamp.specs.Reads.{signed_numbers, signed_number, pairs_of, row_of, are_rows, is_number, kind_of, kind_entry, entry_of, read, gomory_of, cover_of, cut_of, split_of, read_with}
 use Rattle.work_stamp.specs.Writable.{IsWord}
 use Rattle.work_stamp.specs.WordLaws.{AreNoFronts, HasWordsInFront, AreReadFromWords}
 use Rattle.work_stamp.proofs.Reading.{reads_again}
@@ -35,13 +35,13 @@ ok_under : {A : Type 0} (b : Bool) (e : WordsError) (x : Result A WordsError) (a
 ok_under true e x a p = (refl, p)
 ok_under false e x a p = cc
 
-signed_written : (w : ℕ) → IsWord w → signed_word (signed w) ≡ w
+signed_written : (w : ℕ) → IsWord w → signed_word (signed_number w) ≡ w
 signed_written w h = of_z-to_z w64 w h
 
-all_signed_written : (ws : List ℕ) → All IsWord ws → signed_words (all_signed ws) ≡ ws
-all_signed_written [] each = refl
-all_signed_written (w ∷ ws) each =
-    ap (λ (v : ℕ). v ∷ signed_words (all_signed ws)) (signed_written w (All-head IsWord w ws each)) ∙ ap (λ (vs : List ℕ). w ∷ vs) (all_signed_written ws (All-tail IsWord w ws each))
+signed_numbers_written : (ws : List ℕ) → All IsWord ws → signed_words (signed_numbers ws) ≡ ws
+signed_numbers_written [] each = refl
+signed_numbers_written (w ∷ ws) each =
+    ap (λ (v : ℕ). v ∷ signed_words (signed_numbers ws)) (signed_written w (All-head IsWord w ws each)) ∙ ap (λ (vs : List ℕ). w ∷ vs) (signed_numbers_written ws (All-tail IsWord w ws each))
 
 row_parity : (w : ℕ) (b : Bool) → nat_eq (w % 2) 0 ≡ b → row_word (if b then row.Model (w / 2) else row.Cut (w / 2)) ≡ w
 row_parity w true e = let even : w % 2 ≡ 0 = eqb-true (w % 2) 0 e in omega arith
@@ -110,7 +110,7 @@ cut_written (form ∷ word ∷ rest) e p =
 split_written : (node col at first keep bound : ℕ) (e : Entry) → IsWord at → IsWord bound → split_of node col at first keep bound ≡ Ok e → Writes e 7 (node ∷ col ∷ at ∷ first ∷ keep ∷ bound ∷ [])
 split_written node col at first keep bound e a b p =
     let q = ok_under (is_number col && nat_le keep 2) _ _ e p in
-    taken _ e 7 _ q.1 (record { kind = refl; further = ap (λ (x : ℕ). node ∷ col ∷ x ∷ first ∷ keep ∷ signed_word (signed bound) ∷ []) (signed_written at a) ∙ ap (λ (x : ℕ). node ∷ col ∷ at ∷ first ∷ keep ∷ x ∷ []) (signed_written bound b) })
+    taken _ e 7 _ q.1 (record { kind = refl; further = ap (λ (x : ℕ). node ∷ col ∷ x ∷ first ∷ keep ∷ signed_word (signed_number bound) ∷ []) (signed_written at a) ∙ ap (λ (x : ℕ). node ∷ col ∷ at ∷ first ∷ keep ∷ x ∷ []) (signed_written bound b) })
 
 written : (kind : Kind) (f : List ℕ) (e : Entry) → All IsWord f → entry_of kind f ≡ Ok e → Writes e (number kind) f
 written Start [] e each p = refused _ e 1 [] p
@@ -125,7 +125,7 @@ written Done [] e each p = taken _ e 4 _ p (record { kind = refl; further = refl
 written Done (a ∷ f) e each p = refused _ e 4 _ p
 written Found [] e each p = refused _ e 5 [] p
 written Found (v ∷ point) e each p =
-    taken _ e 5 _ p (record { kind = refl; further = ap (λ (x : ℕ). x ∷ signed_words (all_signed point)) (signed_written v (All-head IsWord v point each)) ∙ ap (λ (xs : List ℕ). v ∷ xs) (all_signed_written point (All-tail IsWord v point each)) })
+    taken _ e 5 _ p (record { kind = refl; further = ap (λ (x : ℕ). x ∷ signed_words (signed_numbers point)) (signed_written v (All-head IsWord v point each)) ∙ ap (λ (xs : List ℕ). v ∷ xs) (signed_numbers_written point (All-tail IsWord v point each)) })
 written Cut f e each p = cut_written f e p
 written Split [] e each p = refused _ e 7 _ p
 written Split (a ∷ []) e each p = refused _ e 7 _ p
@@ -171,11 +171,11 @@ item_written (Ok e) count kind stamp more r each three within is p =
     let few : count - 3 ≤ length more = omega arith in
     let long : length (take (count - 3) more) ≡ count - 3 = length-take-le (count - 3) more few in
     let size : 3 + length (further_words e) ≡ count = omega (arith, ap length w.further, long) in
-    let same : record { item = record { stamp = stamp; entry = e }; used = count } ≡ r = cc in
+    let same : record { item = record { stamp = stamp; entry = e }; word_count = count } ≡ r = cc in
     subst (λ (x : WordRead). HasWordsInFront (count ∷ kind ∷ stamp ∷ more) x) same (record {
       rest = drop (count - 3) more;
       whole = whole_written count kind stamp more e size w.kind w.further;
-      used = omega arith;
+      word_count = omega arith;
     })
 
 nothing_begins : (ws : List ℕ) (x : WordsError) (r : WordRead) → ◌≡◌ {A = Result WordRead WordsError} (Err x) (Ok r) → HasWordsInFront ws r
@@ -201,7 +201,7 @@ no_words_begin_others a b rest ha hb e =
     let first = reads_again a rest ha in
     let second = reads_again b [] hb in
     let again : words b ++ [] ≡ words a ++ rest = append-nil (words b) ∙ e in
-    let same : ◌≡◌ {A = Result WordRead WordsError} (Ok (record { item = a; used = length (words a) })) (Ok (record { item = b; used = length (words b) })) = sym first ∙ (ap read (sym again) ∙ second) in
-    let size : length (words a) ≡ length (words b) = ap (λ (r : WordRead). r.used) (ok_same _ _ same) in
+    let same : ◌≡◌ {A = Result WordRead WordsError} (Ok (record { item = a; word_count = length (words a) })) (Ok (record { item = b; word_count = length (words b) })) = sym first ∙ (ap read (sym again) ∙ second) in
+    let size : length (words a) ≡ length (words b) = ap (λ (r : WordRead). r.word_count) (ok_same _ _ same) in
     let none : length rest ≡ 0 = omega (arith, ap length e, length-append (words a) rest, size) in
     nil_from_length rest none

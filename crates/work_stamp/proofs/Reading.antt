@@ -15,7 +15,7 @@ use Rattle.work_stamp.specs.declared.entry.Entry.{Entry}
 use Rattle.work_stamp.specs.declared.entry.Entry.TheVariants.{Start, CutStart, HeurStart, Done, Found, Cut, Split, Closed, Halt}
 use Rattle.work_stamp.specs.declared.error.WordsError.{WordsError}
 use Rattle.work_stamp.specs.Words.{signed_words, pair_words, signed_word, row_word, kind_word, further_words, words}
-use Rattle.work_stamp.specs.Reads.{all_signed, signed, pairs_of, row_of, are_rows, is_number, kind_of, kind_entry, gomory_of, cover_of, split_of, read_with}
+use Rattle.work_stamp.specs.Reads.{signed_numbers, signed_number, pairs_of, row_of, are_rows, is_number, kind_of, kind_entry, gomory_of, cover_of, split_of, read_with}
 use Rattle.work_stamp.specs.Writable.{HasWords, HasNumber, IsNumber, IsSigned, IsPair, IsSplit}
 use Rattle.work_stamp.specs.WordLaws.{AreReadAgain}
 use Rattle.work_stamp.proofs.Lists.{length-pair_words}
@@ -26,13 +26,13 @@ if_true b x y e = ap (λ (c : Bool). if c then x else y) e
 if_false : {A : Type 0} (b : Bool) (x y : A) → b ≡ false → (if b then x else y) ≡ y
 if_false b x y e = ap (λ (c : Bool). if c then x else y) e
 
-signed_read : (z : ℤ) → IsSigned z → signed (signed_word z) ≡ z
+signed_read : (z : ℤ) → IsSigned z → signed_number (signed_word z) ≡ z
 signed_read z f = to_z-of_z w64 z f
 
-all_signed_read : (zs : List ℤ) → All IsSigned zs → all_signed (signed_words zs) ≡ zs
-all_signed_read [] each = refl
-all_signed_read (z ∷ zs) each =
-    ap (λ (y : ℤ). y ∷ all_signed (signed_words zs)) (signed_read z (All-head IsSigned z zs each)) ∙ ap (λ (ys : List ℤ). z ∷ ys) (all_signed_read zs (All-tail IsSigned z zs each))
+signed_numbers_read : (zs : List ℤ) → All IsSigned zs → signed_numbers (signed_words zs) ≡ zs
+signed_numbers_read [] each = refl
+signed_numbers_read (z ∷ zs) each =
+    ap (λ (y : ℤ). y ∷ signed_numbers (signed_words zs)) (signed_read z (All-head IsSigned z zs each)) ∙ ap (λ (ys : List ℤ). z ∷ ys) (signed_numbers_read zs (All-tail IsSigned z zs each))
 
 number_test : (n : ℕ) → n < 2 ^ 32 → is_number n ≡ true
 number_test n h = grind arith
@@ -88,7 +88,7 @@ split_read : (node col : ℕ) (at : ℤ) (first keep : ℕ) (bound : ℤ) → Is
     split_of node col (signed_word at) first keep (signed_word bound) ≡ Ok (Split node col at first keep bound)
 split_read node col at first keep bound h few =
     if_true _ _ _ (and_true _ _ (number_test col h.col_number) (keep_test keep few))
-    ∙ (ap (λ (a : ℤ). Ok (Split node col a first keep (signed (signed_word bound)))) (signed_read at h.at_signed)
+    ∙ (ap (λ (a : ℤ). Ok (Split node col a first keep (signed_number (signed_word bound)))) (signed_read at h.at_signed)
     ∙ ap (λ (b : ℤ). Ok (Split node col at first keep b)) (signed_read bound h.bound_signed))
 
 entry_read : (e : Entry) → HasWords e → kind_entry (kind_of (kind_word e)) (further_words e) ≡ Ok e
@@ -97,8 +97,8 @@ entry_read CutStart h = refl
 entry_read (HeurStart node) h = refl
 entry_read Done h = refl
 entry_read (Found value point) h =
-    ap (λ (v : ℤ). Ok (Found v (all_signed (signed_words point)))) (signed_read value h.in_range.signed_value)
-    ∙ ap (λ (p : List ℤ). Ok (Found value p)) (all_signed_read point h.in_range.each)
+    ap (λ (v : ℤ). Ok (Found v (signed_numbers (signed_words point)))) (signed_read value h.in_range.signed_value)
+    ∙ ap (λ (p : List ℤ). Ok (Found value p)) (signed_numbers_read point h.in_range.each)
 entry_read (Cut (Gomory parts divisor)) h = gomory_read parts divisor h.in_range.each
 entry_read (Cut (Cover of cols)) h = cover_read of cols h.in_range.row h.in_range.each
 entry_read (Split node col at first keep bound) h = split_read node col at first keep bound h.in_range h.writable
@@ -117,4 +117,4 @@ reads_again item rest h =
     if_false _ _ _ long ∙ (if_false _ _ _ three
     ∙ (ap (λ (g : List ℕ). read_with (3 + length f) item.stamp (kind_entry (kind_of (kind_word item.entry)) g)) (front_read f rest)
     ∙ (ap (λ (e : Result Entry WordsError). read_with (3 + length f) item.stamp e) (entry_read item.entry h)
-    ∙ ap (λ (n : ℕ). Ok (record { item = item; used = n })) total)))
+    ∙ ap (λ (n : ℕ). Ok (record { item = item; word_count = n })) total)))

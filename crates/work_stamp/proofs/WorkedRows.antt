@@ -19,10 +19,10 @@ at stamp e = words (record { stamp = stamp; entry = e })
 
 -- an entry read at a stamp from so many words
 abbrev gives : ℕ → Entry → ℕ → Result WordRead WordsError
-gives stamp e used = Ok (record { item = record { stamp = stamp; entry = e }; used = used })
+gives stamp e word_count = Ok (record { item = record { stamp = stamp; entry = e }; word_count = word_count })
 
-abbrev refused : WordsError → Result WordRead WordsError
-refused e = Err e
+abbrev refusal : WordsError → Result WordRead WordsError
+refusal e = Err e
 
 abbrev key : ℕ → ℕ → Key
 key stamp slot = record { stamp = stamp; slot = slot }
@@ -75,47 +75,47 @@ read_bare_cover : read (5 ∷ 6 ∷ 0 ∷ 1 ∷ 8 ∷ []) ≡ gives 0 (entry.Cut
 read_bare_cover = refl
 
 -- no words, and fewer than the first one counts, whatever else is wrong
-nothing : read [] ≡ refused Short
+nothing : read [] ≡ refusal Short
 nothing = refl
 
-too_few : read (4 ∷ 1 ∷ 0 ∷ []) ≡ refused Short
+too_few : read (4 ∷ 1 ∷ 0 ∷ []) ≡ refusal Short
 too_few = refl
 
-too_few_for_two : read (2 ∷ []) ≡ refused Short
+too_few_for_two : read (2 ∷ []) ≡ refusal Short
 too_few_for_two = refl
 
 -- a first word below 3, before an unknown kind
-counts_two : read (2 ∷ 12 ∷ 0 ∷ []) ≡ refused Length
+counts_two : read (2 ∷ 12 ∷ 0 ∷ []) ≡ refusal Length
 counts_two = refl
 
-unknown_kind : read (3 ∷ 12 ∷ 0 ∷ []) ≡ refused Kind
+unknown_kind : read (3 ∷ 12 ∷ 0 ∷ []) ≡ refusal Kind
 unknown_kind = refl
 
 -- an unknown kind, before a wrong number of words
-unknown_and_long : read (5 ∷ 10 ∷ 0 ∷ 0 ∷ 0 ∷ []) ≡ refused Kind
+unknown_and_long : read (5 ∷ 10 ∷ 0 ∷ 0 ∷ 0 ∷ []) ≡ refusal Kind
 unknown_and_long = refl
 
-no_node : read (3 ∷ 1 ∷ 0 ∷ []) ≡ refused Length
+no_node : read (3 ∷ 1 ∷ 0 ∷ []) ≡ refusal Length
 no_node = refl
 
-no_form : read (3 ∷ 6 ∷ 0 ∷ []) ≡ refused Length
+no_form : read (3 ∷ 6 ∷ 0 ∷ []) ≡ refusal Length
 no_form = refl
 
 -- a form above 1, whatever the number of words
-unknown_form : read (4 ∷ 6 ∷ 0 ∷ 2 ∷ []) ≡ refused Value
+unknown_form : read (4 ∷ 6 ∷ 0 ∷ 2 ∷ []) ≡ refusal Value
 unknown_form = refl
 
 -- a row without a weight, before a row that is out of range
-half_a_pair : read (6 ∷ 6 ∷ 0 ∷ 0 ∷ 1 ∷ 8589934592 ∷ []) ≡ refused Length
+half_a_pair : read (6 ∷ 6 ∷ 0 ∷ 0 ∷ 1 ∷ 8589934592 ∷ []) ≡ refusal Length
 half_a_pair = refl
 
-far_row : read (7 ∷ 6 ∷ 0 ∷ 0 ∷ 1 ∷ 8589934592 ∷ 1 ∷ []) ≡ refused Value
+far_row : read (7 ∷ 6 ∷ 0 ∷ 0 ∷ 1 ∷ 8589934592 ∷ 1 ∷ []) ≡ refusal Value
 far_row = refl
 
-far_column : read (9 ∷ 7 ∷ 0 ∷ 0 ∷ 4294967296 ∷ 0 ∷ 0 ∷ 0 ∷ 0 ∷ []) ≡ refused Value
+far_column : read (9 ∷ 7 ∷ 0 ∷ 0 ∷ 4294967296 ∷ 0 ∷ 0 ∷ 0 ∷ 0 ∷ []) ≡ refusal Value
 far_column = refl
 
-keep_three : read (9 ∷ 7 ∷ 0 ∷ 0 ∷ 0 ∷ 0 ∷ 0 ∷ 3 ∷ 0 ∷ []) ≡ refused Value
+keep_three : read (9 ∷ 7 ∷ 0 ∷ 0 ∷ 0 ∷ 0 ∷ 0 ∷ 3 ∷ 0 ∷ []) ≡ refusal Value
 keep_three = refl
 
 -- keys by stamp, then by slot

@@ -11,19 +11,19 @@ use Rattle.work_stamp.specs.declared.entry.Entry.{Entry}
 use Rattle.work_stamp.specs.declared.entry.Entry.TheVariants as entry
 use Rattle.work_stamp.specs.declared.error.WordsError.{WordsError}
 use Rattle.work_stamp.specs.declared.error.WordsError.TheVariants.{Short, Length, Value, Memory}
-use Rattle.work_stamp.specs.declared.error.WordsError.TheVariants as refused
+use Rattle.work_stamp.specs.declared.error.WordsError.TheVariants as words_error
 use Rattle.work_stamp.specs.declared.kind.Kind.{Kind}
 use Rattle.work_stamp.specs.declared.kind.Kind.TheVariants.{Start, CutStart, HeurStart, Done, Found, Cut, Split, Closed, Halt}
 use Rattle.work_stamp.specs.declared.stamped.WordRead.{WordRead}
 
 -- a word as a signed number, in two's complement
-abbrev pub signed : ℕ → ℤ
-signed word = cast_signed w64 word
+abbrev pub signed_number : ℕ → ℤ
+signed_number word = cast_signed w64 word
 
 -- words as signed numbers
-abbrev pub all_signed : List ℕ → List ℤ
-all_signed [] = []
-all_signed (word ∷ rest) = signed word ∷ all_signed rest
+abbrev pub signed_numbers : List ℕ → List ℤ
+signed_numbers [] = []
+signed_numbers (word ∷ rest) = signed_number word ∷ signed_numbers rest
 
 -- the number of a row is below 2^32, and so is that of a column
 abbrev pub is_number : ℕ → Bool
@@ -68,7 +68,7 @@ cut_of (form ∷ word ∷ rest) = if nat_lt 1 form then Err Value
 abbrev pub split_of : ℕ → ℕ → ℕ → ℕ → ℕ → ℕ → Result Entry WordsError
 split_of node col at first keep bound =
     if is_number col && nat_le keep 2
-    then Ok (entry.Split node col (signed at) first keep (signed bound))
+    then Ok (entry.Split node col (signed_number at) first keep (signed_number bound))
     else Err Value
 
 -- the entry of a kind, from the words behind the stamp
@@ -81,7 +81,7 @@ entry_of HeurStart (node ∷ []) = Ok (entry.HeurStart node)
 entry_of HeurStart further = Err Length
 entry_of Done [] = Ok entry.Done
 entry_of Done further = Err Length
-entry_of Found (value ∷ point) = Ok (entry.Found (signed value) (all_signed point))
+entry_of Found (value ∷ point) = Ok (entry.Found (signed_number value) (signed_numbers point))
 entry_of Found [] = Err Length
 entry_of Cut further = cut_of further
 entry_of Split (node ∷ col ∷ at ∷ first ∷ keep ∷ bound ∷ []) = split_of node col at first keep bound
@@ -117,7 +117,7 @@ kind_of word =
     else (if nat_eq word 7 then Ok Split
     else (if nat_eq word 8 then Ok Closed
     else (if nat_eq word 9 then Ok Halt
-    else Err refused.Kind))))))))
+    else Err words_error.Kind))))))))
 
 -- the entry of a number of a kind
 abbrev pub kind_entry : Result Kind WordsError → List ℕ → Result Entry WordsError
@@ -127,31 +127,31 @@ kind_entry (Err e) further = Err e
 -- what was read, with its stamp and its number of words
 abbrev pub read_with : ℕ → ℕ → Result Entry WordsError → Result WordRead WordsError
 read_with count stamp (Ok e) = Ok (record
-    { item = record { stamp = stamp; entry = e }; used = count })
+    { item = record { stamp = stamp; entry = e }; word_count = count })
 read_with count stamp (Err e) = Err e
 
 -- an entry of so many words, from the words behind the first one
-abbrev pub counted : ℕ → List ℕ → Result WordRead WordsError
-counted count [] = Err Short
-counted count (kind ∷ []) = Err Short
-counted count (kind ∷ stamp ∷ rest) = read_with count stamp
+abbrev pub read_by_count : ℕ → List ℕ → Result WordRead WordsError
+read_by_count count [] = Err Short
+read_by_count count (kind ∷ []) = Err Short
+read_by_count count (kind ∷ stamp ∷ rest) = read_with count stamp
     (kind_entry (kind_of kind) (take (count - 3) rest))
 
 -- the entry that words begin with: they are not to end within it, and it has three words or more
 abbrev pub read : List ℕ → Result WordRead WordsError
 read [] = Err Short
 read (count ∷ rest) = if nat_lt (suc (length rest)) count then Err Short
-    else (if nat_lt count 3 then Err Length else counted count rest)
+    else (if nat_lt count 3 then Err Length else read_by_count count rest)
 
 -- a refusal is that of the definition, or want of memory
 abbrev pub IsRefusalOf : {A : Type 0} → WordsError → Result A WordsError → Type 0
-IsRefusalOf Memory defined = Unit {0}
-IsRefusalOf Short defined = defined ≡ Err Short
-IsRefusalOf refused.Kind defined = defined ≡ Err refused.Kind
-IsRefusalOf Length defined = defined ≡ Err Length
-IsRefusalOf Value defined = defined ≡ Err Value
+IsRefusalOf Memory definition = Unit {0}
+IsRefusalOf Short definition = definition ≡ Err Short
+IsRefusalOf words_error.Kind definition = definition ≡ Err words_error.Kind
+IsRefusalOf Length definition = definition ≡ Err Length
+IsRefusalOf Value definition = definition ≡ Err Value
 
 -- an answer is that of the definition, or want of memory
 abbrev pub IsAnswerOf : {A : Type 0} → Result A WordsError → Result A WordsError → Type 0
-IsAnswerOf (Ok x) defined = defined ≡ Ok x
-IsAnswerOf (Err e) defined = IsRefusalOf e defined
+IsAnswerOf (Ok x) definition = definition ≡ Ok x
+IsAnswerOf (Err e) definition = IsRefusalOf e definition

@@ -1,11 +1,11 @@
 ghost use Rattle.std.specs.Prelude.{◌≡◌, ◌≤◌, ◌<◌, ◌^◌, ◌/◌, suc, length, IfOk, true};
 ghost use Rattle.std.specs.List.{list_all};
-ghost use Rattle.work_stamp.specs.Reads.{IsAnswerOf, IsBare, HasNode, all_signed, are_rows as are_rows_of, counted, cover_of, cut_of, entry_of, gomory_of, is_number as is_number_of, pairs_of, read, row_of as row_read};
+ghost use Rattle.work_stamp.specs.Reads.{IsAnswerOf, IsBare, HasNode, signed_numbers as signed_numbers_of, are_rows as are_rows_of, read_by_count as read_by_count_of, cover_of, cut_of, entry_of, gomory_of, is_number as is_number_of, pairs_of, read, row_of as row_read};
 ghost use Rattle.work_stamp.specs.Writable.{IsShort};
 ghost use Rattle.work_stamp.specs.declared.kind.Kind.TheVariants.{Found, Split};
 
 use crate::kind::{Kind, kind_of};
-use crate::{Entry, Stamped, WordRead, WordsError};
+use crate::{Entry, StampedEntry, WordRead, WordsError};
 use ip_core::{Derivation, List, OutOfMemory, Pair, Point, RowRef};
 use std::alloc::Global;
 
@@ -25,15 +25,15 @@ pub fn read_words(alloc: Global, words: &[u64]) -> Result<WordRead, WordsError>
             if *count < 3 {
                 return Err(WordsError::Length);
             }
-            read_counted(alloc, *count as u32, rest)
+            read_by_count(alloc, *count as u32, rest)
         }
     }
 }
 
-fn read_counted(alloc: Global, count: u32, rest: &[u64]) -> Result<WordRead, WordsError>
+fn read_by_count(alloc: Global, count: u32, rest: &[u64]) -> Result<WordRead, WordsError>
     requires three { 3 ≤ count }
     requires within { count ≤ suc (length rest.now) }
-    ensures { IsAnswerOf result (counted count rest.now) }
+    ensures { IsAnswerOf result (read_by_count_of count rest.now) }
 {
     match rest {
         [kind, stamp, words @ ..] => {
@@ -41,11 +41,11 @@ fn read_counted(alloc: Global, count: u32, rest: &[u64]) -> Result<WordRead, Wor
             let further = &words[..count as usize - 3];
             let entry = read_entry(alloc, kind, further)?;
             Ok(WordRead {
-                item: Stamped {
+                item: StampedEntry {
                     stamp: *stamp,
                     entry,
                 },
-                used: count,
+                word_count: count,
             })
         }
         _ => Err(WordsError::Short),
@@ -109,7 +109,7 @@ fn read_found(alloc: Global, further: &[u64]) -> Result<Entry, WordsError>
 }
 
 fn signed_numbers(alloc: Global, words: &[u64]) -> Result<List<i64>, OutOfMemory>
-    ensures { IfOk result (λ values. values ≡ all_signed words.now) }
+    ensures { IfOk result (λ values. values ≡ signed_numbers_of words.now) }
 {
     let mut values = List::new(alloc);
     for word in words {
