@@ -13,13 +13,13 @@ use Rattle.mps_model.specs.declared.model.MpsCol.{MpsCol}
 use Rattle.mps_model.specs.declared.model.MpsModel.{MpsModel}
 
 -- fields, each after a blank
-abbrev pub spaced : List (List ℕ) → List ℕ
-spaced [] = []
-spaced (word ∷ more) = 32 ∷ (word ++ spaced more)
+abbrev pub fields_text : List (List ℕ) → List ℕ
+fields_text [] = []
+fields_text (word ∷ more) = 32 ∷ (word ++ fields_text more)
 
 -- a data line, with its line feed
 abbrev pub data_line : List (List ℕ) → List ℕ
-data_line words = spaced words ++ codes "\n"
+data_line words = fields_text words ++ codes "\n"
 
 -- a line of a column or a set: its name, a row's name and a number
 abbrev pub pair_line : List ℕ → List ℕ → Number → List ℕ
@@ -142,8 +142,8 @@ bound_lines (col ∷ cols) = low_line col.name col.low ++ high_line col.name col
     cols
 
 -- the canonical text of a model
-abbrev pub printed : MpsModel → List ℕ
-printed m =
+abbrev pub canonical_text : MpsModel → List ℕ
+canonical_text m =
     name_line m.name
     ++ sense_lines m.maximise
     ++ codes "ROWS\n"

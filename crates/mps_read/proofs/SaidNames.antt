@@ -13,7 +13,7 @@ use Rattle.mps_read.proofs.Marks.{same_eq}
 use Rattle.mps_read.proofs.Naming.{list_any_images}
 use Rattle.mps_read.proofs.PrintNames.{place_by, differ, same_bytes, place_absent, with_new, with_known}
 use Rattle.mps_read.proofs.ModelLists.{Misses, AreApart, apart_push, misses_names}
-use Rattle.mps_read.proofs.Lookups.{or_second, IsSingle, eq_of, turned}
+use Rattle.mps_read.proofs.Lookups.{or_second, IsSingle, eq_of, bytes_eq-turn}
 
 -- names and the pairs that name rows
 

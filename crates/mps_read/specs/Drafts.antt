@@ -52,7 +52,7 @@ pub record IsDraft (d : Draft) : Type 0 where
   pub latest : length d.latest ≡ length d.row_names
   pub cols : length d.cols ≡ length d.column_names
   pub rows : length d.rows ≡ d.kept
-  pub placed : (row : ℕ) → IsPlaced d.kept (state_at d.row_states row).place
-  pub marked : (row col : ℕ) → length d.column_names ≤ col + 1 →
+  pub places : (row : ℕ) → IsPlaced d.kept (state_at d.row_states row).place
+  pub last_marks : (row col : ℕ) → length d.column_names ≤ col + 1 →
       has_mark row col d.marks ≡ (latest_at d.latest row == col + 1)
-  pub marked_before : (row : ℕ) → latest_at d.latest row ≤ length d.column_names
+  pub latest_within : (row : ℕ) → latest_at d.latest row ≤ length d.column_names
