@@ -1,16 +1,15 @@
-use Rattle.std.specs.Prelude.{ℕ, List}
-use Rattle.mps_read.specs.Readings.{Reads, IsRefused}
+-- What an error tells of the reason why a text has no model.
+use Rattle.std.specs.Prelude.{ℕ, List, Option, Some, None, IfSome}
+use Rattle.mps_read.specs.Readings.{IsRefused}
 use Rattle.mps_read.specs.declared.error.MpsError.{MpsError}
 use Rattle.mps_read.specs.declared.error.MpsError.TheVariants.{Refused, Memory}
-use Rattle.mps_read.specs.declared.reader.Outcome.{Outcome}
-use Rattle.mps_read.specs.declared.reader.Outcome.TheVariants.{Read, RefusedAt}
+use Rattle.mps_read.specs.declared.error.MpsRefusal.{MpsRefusal}
 
--- why a text was not read: its first line that isn't allowed, or want of memory, which no clause ties to a cause
+-- the refusal that an error tells of, or None for want of memory
+abbrev pub refusal_of : MpsError → Option MpsRefusal
+refusal_of (Refused line kind) = Some (record { line = line; kind = kind })
+refusal_of Memory = None
+
+-- what an error tells of the reason is true; want of memory tells of none, and no clause ties it to a cause
 abbrev pub IsCause : List ℕ → MpsError → Type 0
-IsCause bytes (Refused line kind) = IsRefused bytes line kind
-IsCause bytes Memory = Unit {0}
-
--- what a text was found to be is what it is
-abbrev pub IsOutcome : List ℕ → Outcome → Type 0
-IsOutcome bytes (Read model) = Reads bytes model
-IsOutcome bytes (RefusedAt line kind) = IsRefused bytes line kind
+IsCause bytes error = IfSome (refusal_of error) (λ refusal. IsRefused bytes refusal.line refusal.kind)

@@ -11,10 +11,10 @@ ghost use Rattle.mps_read.specs.Judges.{Judges};
 
 use crate::draft::{Draft, Judgement, RowPlace, RowState};
 use crate::error::MpsKind;
+use crate::found_row::{FoundRow, find_row, is_same_row, is_tested};
 use crate::name::is_long;
 use crate::numeral::read_numeral;
 use crate::sets::{is_used, name_set};
-use crate::found_row::{FoundRow, find_row, is_same_row, is_tested};
 use ip_core::{Decimal, OutOfMemory};
 use mps_lines::{FieldPair, Fields, ValueKind};
 use std::alloc::Global;
@@ -99,8 +99,8 @@ fn set_value(draft: &mut Draft, kind: ValueKind, place: RowPlace, value: Decimal
 /// Gives a row a right-hand side or a range.
 fn give(draft: &mut Draft, kind: ValueKind, row: FoundRow, value: Decimal)
     requires known { row.number < length draft.old.row_states }
-    requires placed { IsPlaced (length draft.old.rows) row.state.place }
-    ensures given { draft.new ≡ after_value kind row.number row.state.place value draft.old }
+    requires place { IsPlaced (length draft.old.rows) row.state.place }
+    ensures draft { draft.new ≡ after_value kind row.number row.state.place value draft.old }
     ensures states { length draft.new.row_states ≡ length draft.old.row_states }
     ensures rows { length draft.new.rows ≡ length draft.old.rows }
 {
