@@ -23,7 +23,7 @@ use Rattle.mps_lines.proofs.Visible.{all_visible, pieces-visible, filter-visible
 -- a field: visible bytes, of which there are some
 pub record IsWord (w : List ℕ) : Type 0 where
   pub visible : list_all is_visible w ≡ true
-  pub filled : is_filled w ≡ true
+  pub nonempty : is_filled w ≡ true
 
 abbrev AreWords : Words → Type 0
 AreWords Zero = Unit {0}
@@ -160,13 +160,13 @@ two : (a b : List ℕ) (ws : List (List ℕ)) → all_visible (a ∷ b ∷ ws) �
 two a b ws v f =
     let p = and_true (list_all is_visible a) (all_visible (b ∷ ws)) v in
     let q = and_true (is_filled a) (list_all is_filled (b ∷ ws)) f in (
-      record { visible = p.0; filled = q.0 },
-      record { visible = (and_true (list_all is_visible b) (all_visible ws) p.1).0; filled = (and_true (is_filled b) (list_all is_filled ws) q.1).0 },
+      record { visible = p.0; nonempty = q.0 },
+      record { visible = (and_true (list_all is_visible b) (all_visible ws) p.1).0; nonempty = (and_true (is_filled b) (list_all is_filled ws) q.1).0 },
     )
 
 words_are : (ws : List (List ℕ)) → all_visible ws ≡ true → list_all is_filled ws ≡ true → AreWords (words_of ws)
 words_are [] v f = tt
-words_are (a ∷ []) v f = record { visible = (and_true (list_all is_visible a) _ v).0; filled = (and_true (is_filled a) _ f).0 }
+words_are (a ∷ []) v f = record { visible = (and_true (list_all is_visible a) _ v).0; nonempty = (and_true (is_filled a) _ f).0 }
 words_are (a ∷ b ∷ []) v f = two a b [] v f
 words_are (a ∷ b ∷ c ∷ []) v f = two a b (c ∷ []) v f
 words_are (a ∷ b ∷ c ∷ d ∷ []) v f = two a b (c ∷ d ∷ []) v f
@@ -200,7 +200,7 @@ pub name_is : (w : List ℕ) → list_all is_visible w ≡ true → is_long w �
 name_is w h short = record { short = not_longer (length w) short; visible = name_bytes w h }
 
 pub field_is : (w : List ℕ) → IsWord w → is_long w ≡ false → IsFieldName w
-field_is w h short = record { is_name = name_is w h.visible short; nonempty = λ e. false≢true (ap is_filled (sym e) ∙ h.filled) }
+field_is w h short = record { is_name = name_is w h.visible short; nonempty = λ e. false≢true (ap is_filled (sym e) ∙ h.nonempty) }
 
 pub row_name_is : (w : List ℕ) → IsWord w → is_long w ≡ false → bytes_eq w marker_word ≡ false → IsRowName w
 row_name_is w h short other = record { field = field_is w h short; not_marker = λ e. false≢true (sym other ∙ ap (λ n. bytes_eq n marker_word) e) }

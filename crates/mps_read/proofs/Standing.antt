@@ -20,7 +20,7 @@ use Rattle.mps_read.proofs.DraftParts.{longer}
 use Rattle.mps_read.proofs.PrintNames.{same_bytes, place_first, with_new, with_known}
 use Rattle.mps_read.proofs.ModelLists.{AreApart, AreAmong, apart_push, misses_names, misses_among, among_more, among_last, among_push as all_among_push}
 use Rattle.mps_read.proofs.Lookups.{or_second, eq_of, bytes_eq-turn}
-use Rattle.mps_read.proofs.SaidNames.{and_none, among_push, among_other, among_known, place_known, place_less, missing, apart_with, AreKnown, known_more, known_push, not_named}
+use Rattle.mps_read.proofs.SaidNames.{and_none, among_push, among_other, among_known, place_known, place_less, not_among, apart_with, AreKnown, known_more, known_push, not_named}
 use Rattle.mps_read.proofs.SaidRows.{states_said, place_said, other_objective}
 use Rattle.mps_read.proofs.SaidColumns.{mark_past_row, mark_past_column, mark_more}
 
@@ -98,7 +98,7 @@ new_objective (Some first) names name known new =
     (λ h. h)
 
 pub new_kept : (names kept : List (List ℕ)) (name : List ℕ) → AreAmong names kept → is_among name names ≡ false → is_among name kept ≡ false
-new_kept names kept name known new = missing name kept (misses_among name names kept new known)
+new_kept names kept name known new = not_among name kept (misses_among name names kept new known)
 
 given_known : (o : Option (List ℕ)) (names : List (List ℕ)) (name : List ℕ) → IsKnownObjective o names → IsKnownObjective (first_name o name) (names ++ name ∷ [])
 given_known None names name known = among_last names name

@@ -2,7 +2,7 @@ ghost use Rattle.std.specs.Prelude.{◌≡◌, ◌≤◌, ◌<◌, ◌^◌, leng
 ghost use Rattle.mps_lines.specs.Forms.{form_of, data_form};
 ghost use Rattle.mps_read.specs.Readings.{Reads, IsRefused, name_or_empty as name_or_empty_of};
 ghost use Rattle.mps_read.specs.Steps.{draft_model};
-ghost use Rattle.mps_read.specs.Outcomes.{IsCause};
+ghost use Rattle.mps_read.specs.Refusals.{IsCause};
 ghost use Rattle.mps_lines.specs.FieldWords.{field_words, AreFields};
 ghost use Rattle.mps_read.specs.Judges.{Judges};
 ghost use Rattle.mps_read.specs.Drafts.{IsDraft};
