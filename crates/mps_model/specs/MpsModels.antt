@@ -61,7 +61,7 @@ pub record IsMpsCol (n : ℕ) (col : MpsCol) : Type 0 where
   pub low : IsLow col.low
   pub high : IsHigh col.high
 
--- a model that a file can have: names that tell rows apart, the objective's among them, and columns apart
+-- a model that a file can have: names tell rows apart, the objective's among them, and columns
 pub record IsMpsModel (m : MpsModel) : Type 0 where
   pub name : IsName m.name
   pub objective : IsRowName m.objective

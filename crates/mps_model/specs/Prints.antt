@@ -91,7 +91,7 @@ entry_lines rows name (entry ∷ entries) =
 abbrev pub column_lines : List ℕ → List MpsRow → MpsCol → List ℕ
 column_lines objective rows col = cost_line objective col ++ entry_lines rows col.name col.entries
 
--- the columns that follow one that is integer or isn't, with markers around each run of integer columns
+-- the columns after one that is integer or isn't, with markers around each run of integer columns
 abbrev pub columns_lines : List ℕ → List MpsRow → Bool → List MpsCol → List ℕ
 columns_lines objective rows integer [] = marker_line integer false
 columns_lines objective rows integer (col ∷ cols) =

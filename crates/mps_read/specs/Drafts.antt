@@ -45,8 +45,8 @@ IsPlaced kept (Kept row) = row < kept
 abbrev pub latest_at : List ℕ → ℕ → ℕ
 latest_at latest row = slice_index_or latest row 0
 
--- one state for each row's name, one column for each column's name, and marks by which the last column's entries can be
--- told from the others
+-- one state for each row's name, one column for each column's name, and marks by which the last
+-- column's entries can be told from the others
 pub record IsDraft (d : Draft) : Type 0 where
   pub states : length d.row_states ≡ length d.row_names
   pub latest : length d.latest ≡ length d.row_names

@@ -10,6 +10,6 @@ abbrev pub refusal_of : MpsError → Option MpsRefusal
 refusal_of (Refused line kind) = Some (record { line = line; kind = kind })
 refusal_of Memory = None
 
--- what an error tells of the reason is true; want of memory tells of none, and no clause ties it to a cause
+-- what an error tells of the reason is true; want of memory tells of none and has no clause
 abbrev pub IsCause : List ℕ → MpsError → Type 0
-IsCause bytes error = IfSome (refusal_of error) (λ refusal. IsRefused bytes refusal.line refusal.kind)
+IsCause bytes error = IfSome (refusal_of error) (λ r. IsRefused bytes r.line r.kind)

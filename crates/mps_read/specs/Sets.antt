@@ -1,5 +1,5 @@
--- The sets of right-hand sides, ranges and bounds: a section uses the set of its first data line. The lines stand newest
--- first, the pairs in the order of the file.
+-- The sets of right-hand sides, ranges and bounds: a section uses the set of its first data line.
+-- The lines stand newest first, the pairs in the order of the file.
 use Rattle.std.specs.Prelude.{ℕ, Bool, true, false, ◌&&◌, List, [], ◌∷◌, ◌++◌, Option, Some, None, if◌then◌else◌}
 use Rattle.std.specs.List.{list_any}
 use Rattle.std.specs.Str.{bytes_eq}
@@ -10,7 +10,7 @@ use Rattle.mps_lines.specs.Forms.{Form, Pair, Values, BoundLine}
 use Rattle.mps_lines.specs.declared.section.ValueKind.{ValueKind}
 use Rattle.mps_lines.specs.declared.section.ValueKind.TheVariants.{Side, Range}
 
--- what is there already, or else the new one
+-- the name that is there already, or else the new one
 abbrev pub first_name : Option (List ℕ) → List ℕ → Option (List ℕ)
 first_name None word = Some word
 first_name (Some first) word = Some first

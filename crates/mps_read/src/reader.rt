@@ -28,7 +28,8 @@ fn take_data(alloc: Global, draft: &mut Draft, fields: Fields<'_>) -> Result<Jud
     requires few_columns { length draft.old.column_names < 2 ^ 31 }
     requires fields { AreFields (field_words fields) }
     ensures { IfOk result (λ j. Judges j draft.old
-        (data_form draft.old.section draft.old.has_sense_line (field_words fields.entry)) draft.new) }
+        (data_form draft.old.section draft.old.has_sense_line (field_words fields.entry))
+        draft.new) }
 {
     match draft.section {
         None | Some(Section::Name | Section::Endata) => {
