@@ -1,1 +1,1 @@
-pub mod PrintRows
+pub mod WorkedRows

@@ -11,14 +11,14 @@ use Rattle.mps_model.specs.declared.model.MpsCol.{MpsCol}
 use Rattle.mps_model.specs.declared.model.MpsModel.{MpsModel}
 
 -- a name that is a field of a line
-pub record IsField (name : List ℕ) : Type 0 where
+pub record IsFieldName (name : List ℕ) : Type 0 where
   pub is_name : IsName name
   pub nonempty : name ≢ []
 
 -- a row's name, which isn't the word of markers
 pub record IsRowName (name : List ℕ) : Type 0 where
-  pub field : IsField name
-  pub unmarked : name ≢ codes "'MARKER'"
+  pub field : IsFieldName name
+  pub not_marker : name ≢ codes "'MARKER'"
 
 -- no two places of a list hold the same
 pub record AreDistinct {A : Type 0} (items : List A) (default : A) : Type 0 where
@@ -54,14 +54,14 @@ pub record IsMpsEntry (n : ℕ) (entry : MpsEntry) : Type 0 where
 
 -- a column of a model of n rows, with at most one entry in each
 pub record IsMpsCol (n : ℕ) (col : MpsCol) : Type 0 where
-  pub name : IsField col.name
+  pub name : IsFieldName col.name
   pub cost : IsDecimal col.cost
   pub entries : All (IsMpsEntry n) col.entries
   pub once : AreDistinct (map (λ e. e.row) col.entries) 0
   pub low : IsLow col.low
   pub high : IsHigh col.high
 
--- a model that a file can have: names that tell rows apart, the objective's among them, and columns apart
+-- a model that a file can have: names tell rows apart, the objective's among them, and columns
 pub record IsMpsModel (m : MpsModel) : Type 0 where
   pub name : IsName m.name
   pub objective : IsRowName m.objective

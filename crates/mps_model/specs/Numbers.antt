@@ -1,5 +1,5 @@
 -- Decimals of a file: zero, and those that stand for no bound.
-use Rattle.std.specs.Prelude.{ℕ, ◌+◌, ◌*◌, ◌^◌, Bool, false, ◌==◌, nat_le, ℤ, pos, negsuc}
+use Rattle.std.specs.Prelude.{◌+◌, ◌*◌, ◌^◌, Bool, false, ◌==◌, nat_le, ℤ, pos, negsuc}
 use Rattle.ip_core.specs.Decimals.{Number}
 
 -- the number 0

@@ -13,13 +13,13 @@ use Rattle.mps_model.specs.declared.model.MpsCol.{MpsCol}
 use Rattle.mps_model.specs.declared.model.MpsModel.{MpsModel}
 
 -- fields, each after a blank
-abbrev pub spaced : List (List ℕ) → List ℕ
-spaced [] = []
-spaced (word ∷ more) = 32 ∷ (word ++ spaced more)
+abbrev pub fields_text : List (List ℕ) → List ℕ
+fields_text [] = []
+fields_text (word ∷ more) = 32 ∷ (word ++ fields_text more)
 
 -- a data line, with its line feed
 abbrev pub data_line : List (List ℕ) → List ℕ
-data_line words = spaced words ++ codes "\n"
+data_line words = fields_text words ++ codes "\n"
 
 -- a line of a column or a set: its name, a row's name and a number
 abbrev pub pair_line : List ℕ → List ℕ → Number → List ℕ
@@ -91,7 +91,7 @@ entry_lines rows name (entry ∷ entries) =
 abbrev pub column_lines : List ℕ → List MpsRow → MpsCol → List ℕ
 column_lines objective rows col = cost_line objective col ++ entry_lines rows col.name col.entries
 
--- the columns that follow one that is integer or isn't, with markers around each run of integer columns
+-- the columns after one that is integer or isn't, with markers around each run of integer columns
 abbrev pub columns_lines : List ℕ → List MpsRow → Bool → List MpsCol → List ℕ
 columns_lines objective rows integer [] = marker_line integer false
 columns_lines objective rows integer (col ∷ cols) =
@@ -142,8 +142,8 @@ bound_lines (col ∷ cols) = low_line col.name col.low ++ high_line col.name col
     cols
 
 -- the canonical text of a model
-abbrev pub printed : MpsModel → List ℕ
-printed m =
+abbrev pub canonical_text : MpsModel → List ℕ
+canonical_text m =
     name_line m.name
     ++ sense_lines m.maximise
     ++ codes "ROWS\n"

@@ -1,6 +1,6 @@
 ghost use Rattle.std.specs.Prelude.{◌≡◌, IfOk};
 ghost use Rattle.mps_model.specs.MpsModels.{IsMpsModel};
-ghost use Rattle.mps_model.specs.Prints.{printed};
+ghost use Rattle.mps_model.specs.Prints.{canonical_text as canonical_text_of};
 
 use crate::bounds::bounds_text;
 use crate::columns::append_columns;
@@ -17,7 +17,7 @@ use std::alloc::Global;
 /// that says nothing. The one error is want of memory.
 pub fn canonical_text(alloc: Global, mps: &MpsModel) -> Result<Text, OutOfMemory>
     requires { IsMpsModel mps.now }
-    ensures { IfOk result (λ text. text ≡ printed mps.now) }
+    ensures { IfOk result (λ text. text ≡ canonical_text_of mps.now) }
 {
     let mut text = Text::new(alloc);
     append_header(&mut text, mps)?;

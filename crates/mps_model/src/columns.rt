@@ -40,7 +40,8 @@ fn append_cost(text: &mut Text, objective: &Name, col: &MpsCol) -> Result<(), Ou
 /// Appends the entries of a column, whose rows are known.
 fn append_entries(text: &mut Text, rows: &[MpsRow], col: &MpsCol) -> Result<(), OutOfMemory>
     requires { IsMpsCol (length rows.now) col.now }
-    ensures { OnOk result (text.new ≡ text.old ++ entry_lines rows.now col.now.name col.now.entries) }
+    ensures { OnOk result (text.new ≡ text.old
+        ++ entry_lines rows.now col.now.name col.now.entries) }
 {
     let name = col.name.text().as_slice();
     for entry in col.entries.as_slice() {

@@ -11,7 +11,7 @@ use Rattle.mps_read.specs.Rows.{row_names_of, objective_of, kept_names_of, is_ob
 use Rattle.mps_read.specs.Columns.{column_names_of, pairs_of}
 use Rattle.mps_read.specs.Kinds.{all_pairs, is_pair_numeral, is_known_pair, is_repeated, repeats, is_split_column, kind_of}
 use Rattle.mps_read.specs.Readings.{Reading, Read, outcome, model_of, judge, reading}
-use Rattle.mps_read.specs.DraftRows.{fresh, state_at, is_tested}
+use Rattle.mps_read.specs.DraftRows.{fresh_state, state_at, is_tested}
 use Rattle.mps_read.specs.DraftKinds.{has_mark, has_value, is_same_row, repeats_in, draft_kind}
 use Rattle.mps_read.specs.Drafts.{first_draft}
 use Rattle.mps_read.specs.Steps.{after, draft_model, run}
@@ -26,7 +26,7 @@ use Rattle.mps_read.specs.declared.draft.RowPlace.TheVariants.{Dropped}
 use Rattle.mps_read.specs.declared.draft.RowState.{RowState}
 use Rattle.mps_lines.proofs.Truths.{by_case, and_true, none_else}
 use Rattle.mps_read.proofs.PrintNames.{place_absent}
-use Rattle.mps_read.proofs.Lookups.{map_at, eq_of, turned}
+use Rattle.mps_read.proofs.Lookups.{map_at, eq_of, bytes_eq-turn}
 use Rattle.mps_read.proofs.SaidNames.{and_none, places_eq, named_push}
 use Rattle.mps_read.proofs.SaidRows.{states_said, state_said, tested_said}
 use Rattle.mps_read.proofs.Standing.{draft_of, IsLawful, first_lawful}
@@ -64,7 +64,7 @@ state_is : (before : List Form) (m : List Mark) (l : List ℕ) (q : Pair) → is
     → state_at (draft_of before m l).row_states (place_among q.row (row_names_of before)) ≡ state_said (is_objective (objective_of before) q.row) (kept_names_of before) (pairs_in Side before) (pairs_in Range before) q.row
 state_is before m l q known =
     let f : List ℕ → RowState = λ row. state_said (is_objective (objective_of before) row) (kept_names_of before) (pairs_in Side before) (pairs_in Range before) row in
-    map_at f (f q.row) (fresh Dropped) (bytes_eq q.row) (row_names_of before) known (λ x h. ap f (sym (eq_of q.row x h)))
+    map_at f (f q.row) (fresh_state Dropped) (bytes_eq q.row) (row_names_of before) known (λ x h. ap f (sym (eq_of q.row x h)))
 
 repeats_same : (before : List Form) (m : List Mark) (l : List ℕ) (has : ℕ → Bool) (earlier : List Pair) (first : Pair) (second : Option Pair)
     → ((q : Pair) → is_among q.row (row_names_of before) ≡ true → has (place_among q.row (row_names_of before)) ≡ is_repeated before earlier q)
@@ -83,7 +83,7 @@ repeats_same before m l has earlier first (Some second) same kf ks =
     in
     ap (λ b. (b || has (place_among second.row names)) || is_same_row (draft_of before m l) first second) (same first kf)
     ∙ ap (λ b. (a || b) || is_same_row (draft_of before m l) first second) (same second ks)
-    ∙ ap (λ b. (a || (s && n)) || (b && is_tested (state_at (draft_of before m l).row_states (place_among first.row names)).place)) (places_eq first.row second.row names kf ks ∙ turned second.row first.row e refl)
+    ∙ ap (λ b. (a || (s && n)) || (b && is_tested (state_at (draft_of before m l).row_states (place_among first.row names)).place)) (places_eq first.row second.row names kf ks ∙ bytes_eq-turn second.row first.row e refl)
     ∙ ap (λ b. (a || (s && n)) || (e && b)) tested
     ∙ two_by a s n e (is_single o kept first.row) (λ h. ap (is_single o kept) (eq_of second.row first.row h))
     ∙ ap (λ b. a || (s && b)) (sym (named_push second.row earlier first))
@@ -92,7 +92,7 @@ marks_same : (before : List Form) (m : List Mark) → IsLawful before m → (c :
     → has_mark (place_among q.row (row_names_of before)) (place_among c (column_names_of before)) m ≡ is_repeated before (pairs_of c before) q
 marks_same before m law c q known =
     by_case (is_among c (column_names_of before)) _
-    (λ h. law.marked q.row c known h)
+    (λ h. law.same_marks q.row c known h)
     (λ h.
     let place = place_absent c (column_names_of before) h in
     law.columns_within (place_among q.row (row_names_of before)) (place_among c (column_names_of before)) (omega (arith, place))

@@ -8,16 +8,16 @@ use Rattle.mps_model.specs.declared.model.RowKind.{RowKind}
 use Rattle.mps_model.specs.declared.model.MpsRow.{MpsRow}
 use Rattle.mps_model.specs.declared.model.MpsCol.{MpsCol}
 use Rattle.mps_model.specs.declared.model.MpsEntry.{MpsEntry}
-use Rattle.mps_read.specs.Names.{is_among, place_among, extended, with_name}
+use Rattle.mps_read.specs.Names.{is_among, place_among, with_item, with_name}
 use Rattle.mps_read.specs.Numerals.{decimal_of}
 use Rattle.mps_lines.specs.Forms.{Form, Pair, FreeRow, KeptRow, Entries, Values, BoundLine}
 use Rattle.mps_read.specs.Headers.{has_section}
 use Rattle.mps_model.specs.Prints.{fresh_row}
-use Rattle.mps_read.specs.Sets.{is_used, first_given, set_of, bound_set_of, pairs_in, pairs_on, is_named, number_of, number_or_zero}
+use Rattle.mps_read.specs.Sets.{is_used, first_name, set_of, bound_set_of, pairs_in, pairs_on, is_named, number_of, number_or_zero}
 use Rattle.mps_read.specs.Rows.{RowLine, row_names_of, objective_of, kept_rows_of, kept_names_of, is_objective, is_single, objective_number, row_of, rows_of, constant_of}
 use Rattle.mps_read.specs.Columns.{Bound, column_names_of, pairs_of, bounds_of, begins_integer, is_integer_of, entries_of, low_of, high_of, is_made_integer, column_of, cols_of}
 use Rattle.mps_read.specs.Kinds.{is_repeated, repeats}
-use Rattle.mps_read.specs.DraftRows.{fresh, free_place, state_at, with_marked, with_value, with_constant, place_of_pair}
+use Rattle.mps_read.specs.DraftRows.{fresh_state, free_place, state_at, with_marked_state, with_value, with_constant, place_of_pair}
 use Rattle.mps_read.specs.DraftColumns.{fresh_column, with_coefficient, with_mark, with_bound}
 use Rattle.mps_read.specs.Steps.{after, after_pairs, after_bound, after_value_pair, with_values_set}
 use Rattle.mps_lines.specs.declared.section.Section.TheVariants.{Rhs, Ranges, Bounds}
@@ -31,11 +31,11 @@ use Rattle.mps_read.specs.declared.draft.RowPlace.TheVariants.{Dropped, Kept}
 use Rattle.mps_read.specs.declared.draft.RowState.{RowState}
 use Rattle.mps_read.specs.declared.draft.SetUse.{SetUse}
 use Rattle.mps_lines.proofs.Truths.{by_case, or_false}
-use Rattle.mps_read.proofs.Keeping.{longer}
+use Rattle.mps_read.proofs.DraftParts.{longer}
 use Rattle.mps_read.proofs.Naming.{list_any_images}
 use Rattle.mps_read.proofs.PrintNames.{same_bytes, place_absent, place_first}
 use Rattle.mps_read.proofs.ModelLists.{among_last}
-use Rattle.mps_read.proofs.Lookups.{IsSingle, map_all, map_at, eq_of, turned}
+use Rattle.mps_read.proofs.Lookups.{IsSingle, map_all, map_at, eq_of, bytes_eq-turn}
 use Rattle.mps_read.proofs.SaidNames.{or_same, and_none, apart_with, AreKnown, known_push, among_other, place_known, single_names, not_named, number_none}
 use Rattle.mps_read.proofs.SaidRows.{states_said, state_said, place_said, free_states, kept_states, kept_rows, side_states, range_states, side_rows, range_rows, side_constant}
 use Rattle.mps_read.proofs.SaidColumns.{column_same, coefficient, column_push, bound_columns, ints_with}
@@ -64,7 +64,7 @@ follow before m n l k f same law =
 
 -- rows
 
-free_number : (o : Option (List ℕ)) (names : List (List ℕ)) (name : List ℕ) (pairs : List Pair) → AreKnown names pairs → is_among name names ≡ false → objective_number o pairs ≡ objective_number (first_given o name) pairs
+free_number : (o : Option (List ℕ)) (names : List (List ℕ)) (name : List ℕ) (pairs : List Pair) → AreKnown names pairs → is_among name names ≡ false → objective_number o pairs ≡ objective_number (first_name o name) pairs
 free_number None names name pairs known new = ap number_or_zero (sym (number_none name pairs (not_named names name pairs known new)))
 free_number (Some first) names name pairs known new = refl
 
@@ -83,15 +83,15 @@ free_follows before m l name law new =
     let kept : List (List ℕ) = kept_names_of before in
     let e : Draft = after (draft_of before m l) (FreeRow name) in (
       to_draft (draft_of (FreeRow name ∷ before) e.marks e.latest) e.row_states e.kept e.rows e.cols e.constant e.rhs e.ranges e.bounds
-          (ap (λ b. if b then states_said o kept sides ranges names else states_said o kept sides ranges names ++ fresh (free_place o) ∷ []) new
+          (ap (λ b. if b then states_said o kept sides ranges names else states_said o kept sides ranges names ++ fresh_state (free_place o) ∷ []) new
           ∙ free_states o kept sides ranges names name new (new_objective o names name law.objective_known new) (new_kept names kept name law.kept_known new) (not_named names name sides law.sides_known new) (not_named names name ranges law.ranges_known new)
-          ∙ ap (λ b. states_said (first_given o name) kept sides ranges (if b then names else names ++ name ∷ [])) (sym new))
+          ∙ ap (λ b. states_said (first_name o name) kept sides ranges (if b then names else names ++ name ∷ [])) (sym new))
           refl refl
           (map_all _ _ (column_names_of before)
-          (λ x. costs_same x o (first_given o name) kept (begins_integer x before) (pairs_of x before) (bounds_of x before) (free_number o names name (pairs_of x before) (law.pairs_known x) new)))
+          (λ x. costs_same x o (first_name o name) kept (begins_integer x before) (pairs_of x before) (bounds_of x before) (free_number o names name (pairs_of x before) (law.pairs_known x) new)))
           (ap negation (free_number o names name sides law.sides_known new))
           refl refl refl,
-      subst (λ (ns : List (List ℕ)). AreLawful (first_given o name) ns (kept_rows_of before) sides ranges (column_names_of before) (λ c. pairs_of c before) (λ c. bounds_of c before) m)
+      subst (λ (ns : List (List ℕ)). AreLawful (first_name o name) ns (kept_rows_of before) sides ranges (column_names_of before) (λ c. pairs_of c before) (λ c. bounds_of c before) m)
           (ap (λ b. if b then names else names ++ name ∷ []) (sym new))
           (free_lawful o names (kept_rows_of before) sides ranges (column_names_of before) (λ c. pairs_of c before) (λ c. bounds_of c before) m law name new),
     )
@@ -119,7 +119,7 @@ row_follows before m l kind name law new =
     let more : kept ++ name ∷ [] ≡ names_in (rows ++ line ∷ []) = sym (map-append (λ (x : RowLine). x.name) rows (line ∷ [])) in
     let count : length rows ≡ length kept = sym (length-map rows (λ (x : RowLine). x.name)) in (
       to_draft (draft_of (KeptRow kind name ∷ before) e.marks e.latest) e.row_states e.kept e.rows e.cols e.constant e.rhs e.ranges e.bounds
-          (ap (λ b. if b then states_said o kept sides ranges names else states_said o kept sides ranges names ++ fresh (Kept (length rows)) ∷ []) new
+          (ap (λ b. if b then states_said o kept sides ranges names else states_said o kept sides ranges names ++ fresh_state (Kept (length rows)) ∷ []) new
           ∙ kept_states o kept sides ranges names name (length rows) new (new_objective o names name law.objective_known new) (new_kept names kept name law.kept_known new) (not_named names name sides law.sides_known new) (not_named names name ranges law.ranges_known new) count
           ∙ ap (λ ks. states_said o ks sides ranges (names ++ name ∷ [])) more
           ∙ ap (λ b. states_said o (names_in (rows ++ line ∷ [])) sides ranges (if b then names else names ++ name ∷ [])) (sym new))
@@ -140,7 +140,7 @@ row_follows before m l kind name law new =
 place_is : (o : Option (List ℕ)) (kept : List (List ℕ)) (sides ranges : List Pair) (names : List (List ℕ)) (q : Pair) → is_among q.row names ≡ true → place_of_pair names (states_said o kept sides ranges names) q ≡ place_said (is_objective o q.row) kept q.row
 place_is o kept sides ranges names q known =
     ap (λ (s : RowState). s.place)
-    (map_at (λ row. state_said (is_objective o row) kept sides ranges row) (state_said (is_objective o q.row) kept sides ranges q.row) (fresh Dropped) (bytes_eq q.row) names known
+    (map_at (λ row. state_said (is_objective o row) kept sides ranges row) (state_said (is_objective o q.row) kept sides ranges q.row) (fresh_state Dropped) (bytes_eq q.row) names known
     (λ x h. ap (λ row. state_said (is_objective o row) kept sides ranges row) (sym (eq_of q.row x h))))
 
 known_with : (c : List ℕ) (columns : List (List ℕ)) → is_among c (with_name c columns) ≡ true
@@ -158,10 +158,10 @@ two_more before c first second x = if bytes_eq x c then pairs_of x before ++ fir
 
 module _ (before : List Form) (m : List Mark) (l : List ℕ) (c : List ℕ) (first : Pair) (law : IsLawful before m) (kf : is_among first.row (row_names_of before) ≡ true) (none : is_repeated before (pairs_of c before) first ≡ false) where
   other_one : (x : List ℕ) → bytes_eq c x ≡ false → pairs_of x before ≡ one_more before c first x
-  other_one x h = sym (ap (λ b. if b then pairs_of x before ++ first ∷ [] else pairs_of x before) (turned c x false h))
+  other_one x h = sym (ap (λ b. if b then pairs_of x before ++ first ∷ [] else pairs_of x before) (bytes_eq-turn c x false h))
 
   here_one : (x : List ℕ) → bytes_eq c x ≡ true → pairs_of x before ++ first ∷ [] ≡ one_more before c first x
-  here_one x h = sym (ap (λ b. if b then pairs_of x before ++ first ∷ [] else pairs_of x before) (turned c x true h))
+  here_one x h = sym (ap (λ b. if b then pairs_of x before ++ first ∷ [] else pairs_of x before) (bytes_eq-turn c x true h))
 
   columns_one : (after (draft_of before m l) (Entries c first None)).cols ≡ cols_of (Entries c first None ∷ before)
   columns_one =
@@ -171,7 +171,7 @@ module _ (before : List Form) (m : List Mark) (l : List ℕ) (c : List ℕ) (fir
       let columns : List (List ℕ) = column_names_of before in
       let states : List RowState = states_said o kept (pairs_in Side before) (pairs_in Range before) names in
       let value : Number = decimal_of first.numeral in
-      let begins : List MpsCol = extended (is_among c columns) (fresh_column (is_integer_of before) c) (cols_of before) in
+      let begins : List MpsCol = with_item (is_among c columns) (fresh_column (is_integer_of before) c) (cols_of before) in
       let p : RowPlace = place_said (is_objective o first.row) kept first.row in
       ap (λ q. with_coefficient q value (place_among c columns) begins) (place_is o kept (pairs_in Side before) (pairs_in Range before) names first kf)
       ∙ ap (λ k. with_coefficient p value k begins) (place_with c columns)
@@ -203,12 +203,12 @@ module _ (before : List Form) (m : List Mark) (l : List ℕ) (c : List ℕ) (fir
 
   module _ (second : Pair) (ks : is_among second.row (row_names_of before) ≡ true) (more : is_repeated before (pairs_of c before ++ first ∷ []) second ≡ false) where
     other_two : (x : List ℕ) → bytes_eq c x ≡ false → one_more before c first x ≡ two_more before c first second x
-    other_two x h = sym (other_one x h) ∙ sym (ap (λ b. if b then pairs_of x before ++ first ∷ second ∷ [] else pairs_of x before) (turned c x false h))
+    other_two x h = sym (other_one x h) ∙ sym (ap (λ b. if b then pairs_of x before ++ first ∷ second ∷ [] else pairs_of x before) (bytes_eq-turn c x false h))
 
     here_two : (x : List ℕ) → bytes_eq c x ≡ true → one_more before c first x ++ second ∷ [] ≡ two_more before c first second x
     here_two x h =
         ap (λ ps. ps ++ second ∷ []) (sym (here_one x h)) ∙ append_assoc (pairs_of x before) (first ∷ []) (second ∷ [])
-        ∙ sym (ap (λ b. if b then pairs_of x before ++ first ∷ second ∷ [] else pairs_of x before) (turned c x true h))
+        ∙ sym (ap (λ b. if b then pairs_of x before ++ first ∷ second ∷ [] else pairs_of x before) (bytes_eq-turn c x true h))
 
     columns_two : (after (draft_of before m l) (Entries c first (Some second))).cols ≡ cols_of (Entries c first (Some second) ∷ before)
     columns_two =
@@ -260,7 +260,7 @@ entries_follow before m l c first (Some second) law kf ks none =
 
 -- right-hand sides and ranges
 
-first_same : (o : Option (List ℕ)) (set : List ℕ) → is_used o set ≡ false → first_given o set ≡ o
+first_same : (o : Option (List ℕ)) (set : List ℕ) → is_used o set ≡ false → first_name o set ≡ o
 first_same None set h = absurd (true≢false h)
 first_same (Some first) set h = refl
 
@@ -334,7 +334,7 @@ module _ (before : List Form) (m : List Mark) (l : List ℕ) (set : List ℕ) (f
           ∙ ap (λ ps. states_said o (kept_names_of before) ps (pairs_in Range before) (row_names_of before)) more) refl
           (side_row ∙ ap (λ ps. map (row_of ps (pairs_in Range before)) (kept_rows_of before)) more) refl
           (side_number ∙ ap (λ ps. negation (objective_number o ps)) more)
-          (ap (λ b. if b then set_with (has_section Rhs before) (first_given (set_of Side before) set) else d.rhs) used) refl refl)
+          (ap (λ b. if b then set_with (has_section Rhs before) (first_name (set_of Side before) set) else d.rhs) used) refl refl)
           (sides_lawful o (row_names_of before) (kept_rows_of before) (pairs_in Side before) (pairs_in Range before) (column_names_of before) (λ c. pairs_of c before) (λ c. bounds_of c before) m law
           (pairs_in Side (f ∷ before)) (subst (AreKnown (row_names_of before)) more (known_push (row_names_of before) (pairs_in Side before) first law.sides_known kf)))
 
@@ -355,7 +355,7 @@ module _ (before : List Form) (m : List Mark) (l : List ℕ) (set : List ℕ) (f
           follow before m m l l f
           (ap (λ b. if b then e else d) used
           ∙ to_draft (draft_of (f ∷ before) m l) e.row_states e.kept e.rows e.cols e.constant e.rhs e.ranges e.bounds
-          (ap (with_marked Side (place_among second.row (row_names_of before))) (side_states o (kept_names_of before) (pairs_in Side before) (pairs_in Range before) (row_names_of before) first (names_once first) kf)
+          (ap (with_marked_state Side (place_among second.row (row_names_of before))) (side_states o (kept_names_of before) (pairs_in Side before) (pairs_in Range before) (row_names_of before) first (names_once first) kf)
           ∙ side_states o (kept_names_of before) sides (pairs_in Range before) (row_names_of before) second (names_once second) ks
           ∙ ap (λ ps. states_said o (kept_names_of before) ps (pairs_in Range before) (row_names_of before)) more) refl
           (ap (λ q. with_value Side q value once.rows) (place_of second ks)
@@ -366,7 +366,7 @@ module _ (before : List Form) (m : List Mark) (l : List ℕ) (set : List ℕ) (f
           ∙ ap (with_constant Side p value) side_number
           ∙ side_constant o (kept_names_of before) sides second again
           ∙ ap (λ ps. negation (objective_number o ps)) more)
-          (ap (λ b. if b then set_with (has_section Rhs before) (first_given (set_of Side before) set) else d.rhs) used) refl refl)
+          (ap (λ b. if b then set_with (has_section Rhs before) (first_name (set_of Side before) set) else d.rhs) used) refl refl)
           (sides_lawful o (row_names_of before) (kept_rows_of before) (pairs_in Side before) (pairs_in Range before) (column_names_of before) (λ c. pairs_of c before) (λ c. bounds_of c before) m law
           (pairs_in Side (f ∷ before)) (subst (AreKnown (row_names_of before)) more (known_push (row_names_of before) sides second (known_push (row_names_of before) (pairs_in Side before) first law.sides_known kf) ks)))
 
@@ -389,7 +389,7 @@ module _ (before : List Form) (m : List Mark) (l : List ℕ) (set : List ℕ) (f
           (range_states o (kept_names_of before) (pairs_in Side before) (pairs_in Range before) (row_names_of before) first (names_once first) kf
           ∙ ap (λ ps. states_said o (kept_names_of before) (pairs_in Side before) ps (row_names_of before)) more) refl
           (range_row ∙ ap (λ ps. map (row_of (pairs_in Side before) ps) (kept_rows_of before)) more) refl refl refl
-          (ap (λ b. if b then set_with (has_section Ranges before) (first_given (set_of Range before) set) else d.ranges) used) refl)
+          (ap (λ b. if b then set_with (has_section Ranges before) (first_name (set_of Range before) set) else d.ranges) used) refl)
           (ranges_lawful o (row_names_of before) (kept_rows_of before) (pairs_in Side before) (pairs_in Range before) (column_names_of before) (λ c. pairs_of c before) (λ c. bounds_of c before) m law
           (pairs_in Range (f ∷ before)) (subst (AreKnown (row_names_of before)) more (known_push (row_names_of before) (pairs_in Range before) first law.ranges_known kf)))
 
@@ -410,14 +410,14 @@ module _ (before : List Form) (m : List Mark) (l : List ℕ) (set : List ℕ) (f
           follow before m m l l f
           (ap (λ b. if b then e else d) used
           ∙ to_draft (draft_of (f ∷ before) m l) e.row_states e.kept e.rows e.cols e.constant e.rhs e.ranges e.bounds
-          (ap (with_marked Range (place_among second.row (row_names_of before))) (range_states o (kept_names_of before) (pairs_in Side before) (pairs_in Range before) (row_names_of before) first (names_once first) kf)
+          (ap (with_marked_state Range (place_among second.row (row_names_of before))) (range_states o (kept_names_of before) (pairs_in Side before) (pairs_in Range before) (row_names_of before) first (names_once first) kf)
           ∙ range_states o (kept_names_of before) (pairs_in Side before) ranges (row_names_of before) second (names_once second) ks
           ∙ ap (λ ps. states_said o (kept_names_of before) (pairs_in Side before) ps (row_names_of before)) more) refl
           (ap (λ q. with_value Range q value once.rows) (place_of second ks)
           ∙ ap (with_value Range p value) range_row
           ∙ range_rows o (pairs_in Side before) ranges (kept_rows_of before) second (kept_once second) (law.objective_apart second.row) again
           ∙ ap (λ ps. map (row_of (pairs_in Side before) ps) (kept_rows_of before)) more) refl refl refl
-          (ap (λ b. if b then set_with (has_section Ranges before) (first_given (set_of Range before) set) else d.ranges) used) refl)
+          (ap (λ b. if b then set_with (has_section Ranges before) (first_name (set_of Range before) set) else d.ranges) used) refl)
           (ranges_lawful o (row_names_of before) (kept_rows_of before) (pairs_in Side before) (pairs_in Range before) (column_names_of before) (λ c. pairs_of c before) (λ c. bounds_of c before) m law
           (pairs_in Range (f ∷ before)) (subst (AreKnown (row_names_of before)) more (known_push (row_names_of before) ranges second (known_push (row_names_of before) (pairs_in Range before) first law.ranges_known kf) ks)))
 
@@ -460,16 +460,16 @@ bound_follows before m l kind set c numeral law used known =
     let b : Bound = record { kind = kind; value = decimal_of numeral } in
     let e : Draft = after_bound d kind set c (decimal_of numeral) in
     let other : (x : List ℕ) → bytes_eq c x ≡ false → bounds_of x before ≡ bounds_of x (f ∷ before) =
-    λ x h. sym (ap (λ t. if t && is_used (bound_set_of before) set then b ∷ bounds_of x before else bounds_of x before) (turned c x false h)) in
+    λ x h. sym (ap (λ t. if t && is_used (bound_set_of before) set then b ∷ bounds_of x before else bounds_of x before) (bytes_eq-turn c x false h)) in
     let here : (x : List ℕ) → bytes_eq c x ≡ true → b ∷ bounds_of x before ≡ bounds_of x (f ∷ before) =
-    λ x h. sym (ap (λ t. if t && is_used (bound_set_of before) set then b ∷ bounds_of x before else bounds_of x before) (turned c x true h)
+    λ x h. sym (ap (λ t. if t && is_used (bound_set_of before) set then b ∷ bounds_of x before else bounds_of x before) (bytes_eq-turn c x true h)
     ∙ ap (λ t. if t then b ∷ bounds_of x before else bounds_of x before) used) in
     follow before m m l l f
     (ap (λ t. if t then e else d) used
     ∙ to_draft (draft_of (f ∷ before) m l) e.row_states e.kept e.rows e.cols e.constant e.rhs e.ranges e.bounds refl refl refl
     (bound_columns kind (decimal_of numeral) (objective_of before) (kept_names_of before) (λ x. begins_integer x before) (λ x. pairs_of x before) (λ x. bounds_of x before) (λ x. bounds_of x (f ∷ before)) c (column_names_of before)
     (single_names c (column_names_of before) law.columns_apart) known other here)
-    refl refl refl (ap (λ t. if t then set_with (has_section Bounds before) (first_given (bound_set_of before) set) else d.bounds) used))
+    refl refl refl (ap (λ t. if t then set_with (has_section Bounds before) (first_name (bound_set_of before) set) else d.bounds) used))
     (bounds_lawful (objective_of before) (row_names_of before) (kept_rows_of before) (pairs_in Side before) (pairs_in Range before) (column_names_of before) (λ x. pairs_of x before) (λ x. bounds_of x before) m law
     (λ x. bounds_of x (f ∷ before))
     (λ x h. sym (other x (by_case (bytes_eq c x) _ (λ at. absurd (false≢true (sym h ∙ ap (λ n. is_among n (column_names_of before)) (sym (eq_of c x at)) ∙ known))) (λ at. at)))))

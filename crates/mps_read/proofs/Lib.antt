@@ -1,6 +1,6 @@
 pub mod Naming
 pub mod Refusals
-pub mod Files
+pub mod WorkedRows
 pub mod Lookups
 pub mod SaidNames
 pub mod SaidRows
@@ -10,9 +10,9 @@ pub mod Following
 pub mod Bridge
 pub mod Infinities
 pub mod Places
-pub mod Keeping
+pub mod DraftParts
 pub mod Marks
-pub mod Kept
+pub mod DraftSteps
 pub mod Runs
 pub mod PrintBytes
 pub mod PrintNames

@@ -62,11 +62,11 @@ map_at f y d p (x ∷ xs) has at =
 pub eq_of : (x y : List ℕ) → bytes_eq x y ≡ true → x ≡ y
 eq_of x y h = (bytes_eq-Decides x y).0 h
 
-pub turn : (x y : List ℕ) → bytes_eq x y ≡ bytes_eq y x
-turn x y =
+pub bytes_eq-symmetric : (x y : List ℕ) → bytes_eq x y ≡ bytes_eq y x
+bytes_eq-symmetric x y =
     by_case (bytes_eq x y) _
     (λ h. h ∙ sym (ap (λ n. bytes_eq n x) (sym (eq_of x y h)) ∙ same_bytes x))
     (λ h. h ∙ sym (differ y x (λ e. false≢true (sym h ∙ ap (λ n. bytes_eq n y) (sym e) ∙ same_bytes y))))
 
-pub turned : (x y : List ℕ) (b : Bool) → bytes_eq x y ≡ b → bytes_eq y x ≡ b
-turned x y b h = sym (turn x y) ∙ h
+pub bytes_eq-turn : (x y : List ℕ) (b : Bool) → bytes_eq x y ≡ b → bytes_eq y x ≡ b
+bytes_eq-turn x y b h = sym (bytes_eq-symmetric x y) ∙ h

@@ -6,7 +6,7 @@ use Rattle.std.proofs.lemmas.List.Elements.{All-nil, All-push}
 use Rattle.ip_core.specs.Decimals.{Number, IsDecimal, negation, read_decimal}
 use Rattle.ip_core.specs.declared.decimal.NumeralError.{NumeralError}
 use Rattle.ip_core.proofs.DecimalReads.{zero_is, read_decimal_is}
-use Rattle.mps_read.specs.Names.{is_among, extended}
+use Rattle.mps_read.specs.Names.{is_among, with_item}
 use Rattle.mps_model.specs.Numbers.{zero_decimal, is_zero, is_infinite}
 use Rattle.mps_read.specs.Numerals.{one_decimal, or_zero, decimal_of}
 use Rattle.mps_read.specs.DraftRows.{state_at, is_tested}
@@ -14,7 +14,7 @@ use Rattle.mps_read.specs.DraftColumns.{column_at, fresh_column, with_entry, wit
 use Rattle.mps_read.specs.Columns.{low_limit, high_limit}
 use Rattle.mps_read.specs.DraftKinds.{has_mark}
 use Rattle.mps_read.specs.Steps.{after_column, after_entry}
-use Rattle.mps_model.specs.MpsModels.{IsField, IsMpsEntry, IsLow, IsHigh}
+use Rattle.mps_model.specs.MpsModels.{IsFieldName, IsMpsEntry, IsLow, IsHigh}
 use Rattle.mps_model.specs.declared.model.Limit.{Limit}
 use Rattle.mps_model.specs.declared.model.Limit.TheVariants.{Free, At}
 use Rattle.mps_model.specs.declared.model.MpsCol.{MpsCol}
@@ -63,22 +63,22 @@ high_is value v = high_by (is_infinite value) value v refl
 -- one column changes
 
 module _ (n : ℕ) (c : MpsCol) (is : IsColumn n c) where
-  limited : (integer : Bool) (low high : Limit) → IsLow low → IsHigh high → IsColumn n (record c { integer = integer; low = low; high = high })
-  limited integer low high l h = record { name = is.name; cost = is.cost; entries = is.entries; once = is.once; low = l; high = h }
+  with_limits : (integer : Bool) (low high : Limit) → IsLow low → IsHigh high → IsColumn n (record c { integer = integer; low = low; high = high })
+  with_limits integer low high l h = record { name = is.name; cost = is.cost; entries = is.entries; once = is.once; low = l; high = h }
 
   pub bounded_is : (kind : BoundKind) (value : Number) → IsDecimal value → IsColumn n (bounded_column kind value c)
-  bounded_is Lower value v = limited c.integer (low_limit value) c.high (low_is value v) is.high
-  bounded_is Upper value v = limited c.integer c.low (high_limit value) is.low (high_is value v)
-  bounded_is Fixed value v = limited c.integer (low_limit value) (high_limit value) (low_is value v) (high_is value v)
-  bounded_is IntegerLower value v = limited true (low_limit value) c.high (low_is value v) is.high
-  bounded_is IntegerUpper value v = limited true c.low (high_limit value) is.low (high_is value v)
-  bounded_is NoSides value v = limited c.integer Free Free tt tt
-  bounded_is NoLower value v = limited c.integer Free c.high tt is.high
-  bounded_is NoUpper value v = limited c.integer c.low Free is.low tt
-  bounded_is Binary value v = limited true (At zero_decimal) (At one_decimal) (zero_is, refl) (one_is, refl)
+  bounded_is Lower value v = with_limits c.integer (low_limit value) c.high (low_is value v) is.high
+  bounded_is Upper value v = with_limits c.integer c.low (high_limit value) is.low (high_is value v)
+  bounded_is Fixed value v = with_limits c.integer (low_limit value) (high_limit value) (low_is value v) (high_is value v)
+  bounded_is IntegerLower value v = with_limits true (low_limit value) c.high (low_is value v) is.high
+  bounded_is IntegerUpper value v = with_limits true c.low (high_limit value) is.low (high_is value v)
+  bounded_is NoSides value v = with_limits c.integer Free Free tt tt
+  bounded_is NoLower value v = with_limits c.integer Free c.high tt is.high
+  bounded_is NoUpper value v = with_limits c.integer c.low Free is.low tt
+  bounded_is Binary value v = with_limits true (At zero_decimal) (At one_decimal) (zero_is, refl) (one_is, refl)
 
-  pub costed_is : (value : Number) → IsDecimal value → IsColumn n (record c { cost = value })
-  costed_is value v = record { name = is.name; cost = v; entries = is.entries; once = is.once; low = is.low; high = is.high }
+  pub with_cost-is : (value : Number) → IsDecimal value → IsColumn n (record c { cost = value })
+  with_cost-is value v = record { name = is.name; cost = v; entries = is.entries; once = is.once; low = is.low; high = is.high }
 
   pub entry_is : (k : ℕ) (value : Number) → k < n → IsDecimal value → is_zero value ≡ false → Misses k (rows_in c) → IsColumn n (with_entry k value c)
   entry_is k value known v other new =
@@ -117,7 +117,7 @@ bounded_rows Binary value c = refl
 set_columns : (kept : ℕ) (cols : List MpsCol) (names : List (List ℕ)) (col : ℕ) (c : MpsCol) → AreColumns kept cols names → c.name ≡ (column_at cols col).name → (IsColumn kept (column_at cols col) → IsColumn kept c) → AreColumns kept (slice_set cols col c) names
 set_columns kept cols names col c h same more = record {
   each = each_set (IsColumn kept) cols col c (fresh_column false []) h.each more;
-  named = map_set_same (λ (x : MpsCol). x.name) cols col c (fresh_column false []) same ∙ h.named;
+  same_names = map_set_same (λ (x : MpsCol). x.name) cols col c (fresh_column false []) same ∙ h.same_names;
   apart = h.apart;
 }
 
@@ -139,32 +139,32 @@ bound_marked kind value col states cols marks h = set_marked states cols marks c
 
 -- a column begins
 
-fresh_is : (n : ℕ) (integer : Bool) (column : List ℕ) → IsField column → IsColumn n (fresh_column integer column)
+fresh_is : (n : ℕ) (integer : Bool) (column : List ℕ) → IsFieldName column → IsColumn n (fresh_column integer column)
 fresh_is n integer column field = record { name = field; cost = zero_is; entries = All-nil (IsMpsEntry n); once = tt; low = tt; high = tt }
 
-begun_columns : (b : Bool) (kept : ℕ) (cols : List MpsCol) (names : List (List ℕ)) (integer : Bool) (column : List ℕ) → is_among column names ≡ b → IsField column → AreColumns kept cols names
-    → AreColumns kept (extended b (fresh_column integer column) cols) (if b then names else names ++ column ∷ [])
+begun_columns : (b : Bool) (kept : ℕ) (cols : List MpsCol) (names : List (List ℕ)) (integer : Bool) (column : List ℕ) → is_among column names ≡ b → IsFieldName column → AreColumns kept cols names
+    → AreColumns kept (with_item b (fresh_column integer column) cols) (if b then names else names ++ column ∷ [])
 begun_columns true kept cols names integer column known field h = h
 begun_columns false kept cols names integer column new field h = record {
   each = All-push (IsColumn kept) cols (fresh_column integer column) h.each (fresh_is kept integer column field);
-  named = map-append (λ (x : MpsCol). x.name) cols (fresh_column integer column ∷ []) ∙ ap (λ ns. ns ++ column ∷ []) h.named;
+  same_names = map-append (λ (x : MpsCol). x.name) cols (fresh_column integer column ∷ []) ∙ ap (λ ns. ns ++ column ∷ []) h.same_names;
   apart = apart_push names column h.apart (misses_names column names new);
 }
 
-begun_marked : (b : Bool) (states : List RowState) (cols : List MpsCol) (marks : List Mark) (integer : Bool) (column : List ℕ) → AreMarked states cols marks → AreMarked states (extended b (fresh_column integer column) cols) marks
+begun_marked : (b : Bool) (states : List RowState) (cols : List MpsCol) (marks : List Mark) (integer : Bool) (column : List ℕ) → AreMarked states cols marks → AreMarked states (with_item b (fresh_column integer column) cols) marks
 begun_marked true states cols marks integer column h = h
 begun_marked false states cols marks integer column h = record {
   each = λ r k i at none. at_push (λ (x : MpsCol). Misses k (rows_in x)) cols i (fresh_column integer column) (fresh_column false []) (h.each r k i at none) tt;
 }
 
-pub begun_kept : (d : Draft) (column : List ℕ) → IsReadable d → IsField column → IsReadable (after_column d column)
+pub begun_kept : (d : Draft) (column : List ℕ) → IsReadable d → IsFieldName column → IsReadable (after_column d column)
 begun_kept d column is field = record {
   header = is.header;
   constant_is = is.constant_is;
   rows_are = is.rows_are;
   single = is.single;
   columns = begun_columns (is_among column d.column_names) d.kept d.cols d.column_names d.is_integer column refl field is.columns;
-  marked = begun_marked (is_among column d.column_names) d.row_states d.cols d.marks d.is_integer column is.marked;
+  marks_are = begun_marked (is_among column d.column_names) d.row_states d.cols d.marks d.is_integer column is.marks_are;
 }
 
 -- an entry
@@ -203,7 +203,7 @@ kept_entered true d row k col value none is v known at unmarked = record {
   rows_are = is.rows_are;
   single = is.single;
   columns = is.columns;
-  marked = more_marks d.row_states d.cols d.marks row col is.marked;
+  marks_are = more_marks d.row_states d.cols d.marks row col is.marks_are;
 }
 kept_entered false d row k col value some is v known at unmarked = record {
   header = is.header;
@@ -211,8 +211,8 @@ kept_entered false d row k col value some is v known at unmarked = record {
   rows_are = is.rows_are;
   single = is.single;
   columns = set_columns d.kept d.cols d.column_names col (with_entry k value (column_at d.cols col)) is.columns refl
-      (λ c. entry_is d.kept (column_at d.cols col) c k value known v some (is.marked.each row k col at unmarked));
-  marked = entry_marked d.row_states d.cols d.marks row k col value is.single is.marked at;
+      (λ c. entry_is d.kept (column_at d.cols col) c k value known v some (is.marks_are.each row k col at unmarked));
+  marks_are = entry_marked d.row_states d.cols d.marks row k col value is.single is.marks_are at;
 }
 
 pub entered_readable : (d : Draft) (row : ℕ) (place : RowPlace) (col : ℕ) (value : Number) → IsReadable d → IsDecimal value → ((k : ℕ) → place ≡ Kept k → k < d.kept) → (state_at d.row_states row).place ≡ place
@@ -222,8 +222,8 @@ entered_readable d row Objective col value is v known at unmarked = record {
   constant_is = is.constant_is;
   rows_are = is.rows_are;
   single = is.single;
-  columns = set_columns d.kept d.cols d.column_names col (record (column_at d.cols col) { cost = value }) is.columns refl (λ c. costed_is d.kept (column_at d.cols col) c value v);
-  marked = more_marks d.row_states (slice_set d.cols col (record (column_at d.cols col) { cost = value })) d.marks row col (set_marked d.row_states d.cols d.marks col (record (column_at d.cols col) { cost = value }) is.marked refl);
+  columns = set_columns d.kept d.cols d.column_names col (record (column_at d.cols col) { cost = value }) is.columns refl (λ c. with_cost-is d.kept (column_at d.cols col) c value v);
+  marks_are = more_marks d.row_states (slice_set d.cols col (record (column_at d.cols col) { cost = value })) d.marks row col (set_marked d.row_states d.cols d.marks col (record (column_at d.cols col) { cost = value }) is.marks_are refl);
 }
 entered_readable d row Dropped col value is v known at unmarked = is
 entered_readable d row (Kept k) col value is v known at unmarked = kept_entered (is_zero value) d row k col value refl is v (known k refl) at (unmarked refl)

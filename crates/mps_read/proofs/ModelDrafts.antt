@@ -5,7 +5,7 @@ use Rattle.mps_read.specs.DraftRows.{state_at}
 use Rattle.mps_read.specs.DraftColumns.{column_at}
 use Rattle.mps_read.specs.DraftKinds.{has_mark}
 use Rattle.mps_read.specs.Kinds.{rank_of}
-use Rattle.mps_model.specs.MpsModels.{IsField, IsRowName, IsMpsRow, IsMpsEntry, IsLow, IsHigh}
+use Rattle.mps_model.specs.MpsModels.{IsFieldName, IsRowName, IsMpsRow, IsMpsEntry, IsLow, IsHigh}
 use Rattle.mps_model.specs.declared.model.MpsRow.{MpsRow}
 use Rattle.mps_model.specs.declared.model.MpsCol.{MpsCol}
 use Rattle.mps_lines.specs.declared.section.Section.{Section}
@@ -25,11 +25,11 @@ IsObjective (Some name) = IsRowName name
 pub record IsHeader (section : Option Section) (title : List ℕ) (objective : Option (List ℕ)) : Type 0 where
   pub name : IsName title
   pub row_name : IsObjective objective
-  pub begun : nat_le 4 (rank_of section) ≡ true → is_some objective ≡ true
+  pub has_objective : nat_le 4 (rank_of section) ≡ true → is_some objective ≡ true
 
-abbrev pub listed : Option (List ℕ) → List (List ℕ) → List (List ℕ)
-listed None names = names
-listed (Some name) names = name ∷ names
+abbrev pub with_objective : Option (List ℕ) → List (List ℕ) → List (List ℕ)
+with_objective None names = names
+with_objective (Some name) names = name ∷ names
 
 abbrev pub names_of : List MpsRow → List (List ℕ)
 names_of rows = map (λ row. row.name) rows
@@ -37,15 +37,15 @@ names_of rows = map (λ row. row.name) rows
 -- rows whose names differ, and the objective's from them
 pub record AreRows (objective : Option (List ℕ)) (rows : List MpsRow) (names : List (List ℕ)) : Type 0 where
   pub each : All IsMpsRow rows
-  pub apart : AreApart (listed objective (names_of rows))
-  pub known : AreAmong names (listed objective (names_of rows))
+  pub apart : AreApart (with_objective objective (names_of rows))
+  pub known : AreAmong names (with_objective objective (names_of rows))
 
 -- the numbers of the rows of a column's entries
 abbrev pub rows_in : MpsCol → List ℕ
 rows_in col = map (λ e. e.row) col.entries
 
 pub record IsColumn (n : ℕ) (col : MpsCol) : Type 0 where
-  pub name : IsField col.name
+  pub name : IsFieldName col.name
   pub cost : IsDecimal col.cost
   pub entries : All (IsMpsEntry n) col.entries
   pub once : AreApart (rows_in col)
@@ -54,7 +54,7 @@ pub record IsColumn (n : ℕ) (col : MpsCol) : Type 0 where
 
 pub record AreColumns (kept : ℕ) (cols : List MpsCol) (names : List (List ℕ)) : Type 0 where
   pub each : All (IsColumn kept) cols
-  pub named : map (λ col. col.name) cols ≡ names
+  pub same_names : map (λ col. col.name) cols ≡ names
   pub apart : AreApart names
 
 -- no two names stand for one row
@@ -71,7 +71,7 @@ pub record AreReadable (section : Option Section) (title : List ℕ) (objective 
   pub rows_are : AreRows objective rows row_names
   pub single : AreSingle states
   pub columns : AreColumns kept cols column_names
-  pub marked : AreMarked states cols marks
+  pub marks_are : AreMarked states cols marks
 
 abbrev pub IsReadable : Draft → Type 0
 IsReadable d = AreReadable d.section d.name d.objective d.constant d.rows d.row_names d.row_states d.kept d.cols d.column_names d.marks

@@ -22,12 +22,12 @@ use Rattle.mps_read.proofs.ModelAllowed.{end_allowed}
 -- before the first line
 pub first_readable : IsReadable first_draft
 first_readable = record {
-  header = record { name = name_is [] refl refl; row_name = tt; begun = λ h. absurd (false≢true h) };
+  header = record { name = name_is [] refl refl; row_name = tt; has_objective = λ h. absurd (false≢true h) };
   constant_is = zero_is;
   rows_are = record { each = All-nil IsMpsRow; apart = tt; known = tt };
   single = record { each = λ r s k hr hs. cc };
-  columns = record { each = All-nil (IsColumn 0); named = refl; apart = tt };
-  marked = record { each = λ r k col at none. tt };
+  columns = record { each = All-nil (IsColumn 0); same_names = refl; apart = tt };
+  marks_are = record { each = λ r k col at none. tt };
 }
 
 -- at the end
@@ -42,7 +42,7 @@ end_objective d (Head Columns word) is a h = absurd (false≢true h)
 end_objective d (Head Rhs word) is a h = absurd (false≢true h)
 end_objective d (Head Ranges word) is a h = absurd (false≢true h)
 end_objective d (Head Bounds word) is a h = absurd (false≢true h)
-end_objective d (Head Endata word) is a h = is.header.begun (end_allowed d word a)
+end_objective d (Head Endata word) is a h = is.header.has_objective (end_allowed d word a)
 end_objective d UnknownHead is a h = absurd (false≢true h)
 end_objective d Stray is a h = absurd (false≢true h)
 end_objective d Miscounted is a h = absurd (false≢true h)
@@ -72,7 +72,7 @@ model_by d (Some name) header rows constant columns kept some = record {
   rows = rows.each;
   cols = All-weaker (IsColumn d.kept) (IsMpsCol (length d.rows)) (λ col is. column_is (length d.rows) d.kept col kept is) d.cols columns.each;
   row_names = distinct (name ∷ names_of d.rows) [] rows.apart;
-  column_names = distinct (map (λ col. col.name) d.cols) [] (subst (λ (ns : List (List ℕ)). AreApart ns) (sym columns.named) columns.apart);
+  column_names = distinct (map (λ col. col.name) d.cols) [] (subst (λ (ns : List (List ℕ)). AreApart ns) (sym columns.same_names) columns.apart);
 }
 
 pub model_is : (d : Draft) → IsDraft d → IsReadable d → is_some d.objective ≡ true → IsMpsModel (draft_model d)

@@ -8,7 +8,7 @@ use Rattle.ip_core.specs.Names.{IsName, IsNameByte}
 use Rattle.mps_read.specs.Names.{is_long}
 use Rattle.mps_lines.specs.Lines.{Words, Zero, One, Two, Three, Four, Five, Many, words_of, fields, pieces, first_word, has_none, is_comment, is_data, is_visible, is_filled, is_line_byte}
 use Rattle.mps_lines.specs.Forms.{Form, Blank, Spoilt, Head, UnknownHead, Stray, Miscounted, SenseLine, FreeRow, KeptRow, UntypedRow, Marker, UnknownMarker, Entries, Values, BoundLine, UntypedBound, marker_word, section_named, second_word, known_head, head_form, sense_form, row_kind_named, kept_row, rows_form, marker_form, columns_form, values_form, bound_named, has_numeral, numeral_bound, plain_bound, typed_bound, data_form, words_form, form_of}
-use Rattle.mps_model.specs.MpsModels.{IsField, IsRowName}
+use Rattle.mps_model.specs.MpsModels.{IsFieldName, IsRowName}
 use Rattle.mps_model.specs.declared.model.RowKind.{RowKind}
 use Rattle.mps_lines.specs.declared.section.Section.{Section}
 use Rattle.mps_lines.specs.declared.section.Section.TheVariants.{Name, Objsense, Rows, Columns, Rhs, Ranges, Bounds, Endata}
@@ -23,7 +23,7 @@ use Rattle.mps_lines.proofs.Visible.{all_visible, pieces-visible, filter-visible
 -- a field: visible bytes, of which there are some
 pub record IsWord (w : List ℕ) : Type 0 where
   pub visible : list_all is_visible w ≡ true
-  pub filled : is_filled w ≡ true
+  pub nonempty : is_filled w ≡ true
 
 abbrev AreWords : Words → Type 0
 AreWords Zero = Unit {0}
@@ -160,13 +160,13 @@ two : (a b : List ℕ) (ws : List (List ℕ)) → all_visible (a ∷ b ∷ ws) �
 two a b ws v f =
     let p = and_true (list_all is_visible a) (all_visible (b ∷ ws)) v in
     let q = and_true (is_filled a) (list_all is_filled (b ∷ ws)) f in (
-      record { visible = p.0; filled = q.0 },
-      record { visible = (and_true (list_all is_visible b) (all_visible ws) p.1).0; filled = (and_true (is_filled b) (list_all is_filled ws) q.1).0 },
+      record { visible = p.0; nonempty = q.0 },
+      record { visible = (and_true (list_all is_visible b) (all_visible ws) p.1).0; nonempty = (and_true (is_filled b) (list_all is_filled ws) q.1).0 },
     )
 
 words_are : (ws : List (List ℕ)) → all_visible ws ≡ true → list_all is_filled ws ≡ true → AreWords (words_of ws)
 words_are [] v f = tt
-words_are (a ∷ []) v f = record { visible = (and_true (list_all is_visible a) _ v).0; filled = (and_true (is_filled a) _ f).0 }
+words_are (a ∷ []) v f = record { visible = (and_true (list_all is_visible a) _ v).0; nonempty = (and_true (is_filled a) _ f).0 }
 words_are (a ∷ b ∷ []) v f = two a b [] v f
 words_are (a ∷ b ∷ c ∷ []) v f = two a b (c ∷ []) v f
 words_are (a ∷ b ∷ c ∷ d ∷ []) v f = two a b (c ∷ d ∷ []) v f
@@ -199,8 +199,8 @@ not_longer n h = grind (arith, nat_tests)
 pub name_is : (w : List ℕ) → list_all is_visible w ≡ true → is_long w ≡ false → IsName w
 name_is w h short = record { short = not_longer (length w) short; visible = name_bytes w h }
 
-pub field_is : (w : List ℕ) → IsWord w → is_long w ≡ false → IsField w
-field_is w h short = record { is_name = name_is w h.visible short; nonempty = λ e. false≢true (ap is_filled (sym e) ∙ h.filled) }
+pub field_is : (w : List ℕ) → IsWord w → is_long w ≡ false → IsFieldName w
+field_is w h short = record { is_name = name_is w h.visible short; nonempty = λ e. false≢true (ap is_filled (sym e) ∙ h.nonempty) }
 
 pub row_name_is : (w : List ℕ) → IsWord w → is_long w ≡ false → bytes_eq w marker_word ≡ false → IsRowName w
-row_name_is w h short other = record { field = field_is w h short; unmarked = λ e. false≢true (sym other ∙ ap (λ n. bytes_eq n marker_word) e) }
+row_name_is w h short other = record { field = field_is w h short; not_marker = λ e. false≢true (sym other ∙ ap (λ n. bytes_eq n marker_word) e) }

@@ -11,7 +11,7 @@ use Rattle.mps_read.specs.declared.error.MpsKind.{MpsKind}
 use Rattle.mps_model.specs.declared.model.MpsModel.{MpsModel}
 use Rattle.mps_read.specs.declared.draft.Draft.{Draft}
 use Rattle.mps_read.proofs.Bridge.{begins}
-use Rattle.mps_read.proofs.Kept.{after_kept, first_kept}
+use Rattle.mps_read.proofs.DraftSteps.{after_kept, first_kept}
 use Rattle.mps_read.proofs.ModelDrafts.{IsReadable}
 use Rattle.mps_read.proofs.ModelFields.{form_words}
 use Rattle.mps_read.proofs.ModelSteps.{after_readable}

@@ -5,9 +5,9 @@ use Rattle.std.proofs.lemmas.List.Elements.{All-push, All-weaker, All-head, All-
 use Rattle.ip_core.specs.Decimals.{Number, IsDecimal, negation}
 use Rattle.ip_core.proofs.DecimalReads.{zero_is}
 use Rattle.mps_read.specs.Names.{is_among}
-use Rattle.mps_read.specs.Sets.{first_given}
+use Rattle.mps_read.specs.Sets.{first_name}
 use Rattle.mps_model.specs.Prints.{fresh_row}
-use Rattle.mps_read.specs.DraftRows.{state_at, fresh, free_place, valued_row, with_value, with_constant, with_marked}
+use Rattle.mps_read.specs.DraftRows.{state_at, fresh_state, free_place, valued_row, with_value, with_constant, with_marked_state}
 use Rattle.mps_read.specs.DraftColumns.{column_at, fresh_column}
 use Rattle.mps_read.specs.Drafts.{IsPlaced}
 use Rattle.mps_model.specs.MpsModels.{IsRowName, IsMpsRow, IsMpsEntry}
@@ -22,21 +22,21 @@ use Rattle.mps_read.specs.declared.draft.Mark.{Mark}
 use Rattle.mps_read.specs.declared.draft.RowPlace.{RowPlace}
 use Rattle.mps_read.specs.declared.draft.RowPlace.TheVariants.{Objective, Dropped, Kept}
 use Rattle.mps_read.specs.declared.draft.RowState.{RowState}
-use Rattle.mps_read.proofs.Keeping.{with_marked-place}
+use Rattle.mps_read.proofs.DraftParts.{with_marked_state-place}
 use Rattle.mps_read.proofs.ModelLists.{Misses, AreApart, AreAmong, apart_push, at_push, at_each, each_set, map_set_same, among_more, among_last, among_push, misses_among}
-use Rattle.mps_read.proofs.ModelDrafts.{IsObjective, listed, names_of, AreRows, rows_in, IsColumn, AreColumns, AreSingle, AreMarked}
+use Rattle.mps_read.proofs.ModelDrafts.{IsObjective, with_objective, names_of, AreRows, rows_in, IsColumn, AreColumns, AreSingle, AreMarked}
 
 -- a row's name for the first time
 
-pub given_objective : (o : Option (List ℕ)) (name : List ℕ) → IsObjective o → IsRowName name → IsObjective (first_given o name)
+pub given_objective : (o : Option (List ℕ)) (name : List ℕ) → IsObjective o → IsRowName name → IsObjective (first_name o name)
 given_objective None name h new = new
 given_objective (Some first) name h new = h
 
-pub given_some : (o : Option (List ℕ)) (name : List ℕ) → is_some (first_given o name) ≡ true
+pub given_some : (o : Option (List ℕ)) (name : List ℕ) → is_some (first_name o name) ≡ true
 given_some None name = refl
 given_some (Some first) name = refl
 
-pub free_rows : (o : Option (List ℕ)) (rows : List MpsRow) (names : List (List ℕ)) (name : List ℕ) → AreRows o rows names → is_among name names ≡ false → AreRows (first_given o name) rows (names ++ name ∷ [])
+pub free_rows : (o : Option (List ℕ)) (rows : List MpsRow) (names : List (List ℕ)) (name : List ℕ) → AreRows o rows names → is_among name names ≡ false → AreRows (first_name o name) rows (names ++ name ∷ [])
 free_rows None rows names name h new = record {
   each = h.each;
   apart = (misses_among name names (names_of rows) new h.known, h.apart);
@@ -44,16 +44,16 @@ free_rows None rows names name h new = record {
 }
 free_rows (Some first) rows names name h new = record { each = h.each; apart = h.apart; known = among_more names (first ∷ names_of rows) name h.known }
 
-listed_push : (o : Option (List ℕ)) (rows : List MpsRow) (row : MpsRow) → listed o (names_of (rows ++ row ∷ [])) ≡ listed o (names_of rows) ++ row.name ∷ []
-listed_push None rows row = map-append (λ r. r.name) rows (row ∷ [])
-listed_push (Some first) rows row = ap (λ ns. first ∷ ns) (map-append (λ r. r.name) rows (row ∷ []))
+with_objective-push : (o : Option (List ℕ)) (rows : List MpsRow) (row : MpsRow) → with_objective o (names_of (rows ++ row ∷ [])) ≡ with_objective o (names_of rows) ++ row.name ∷ []
+with_objective-push None rows row = map-append (λ r. r.name) rows (row ∷ [])
+with_objective-push (Some first) rows row = ap (λ ns. first ∷ ns) (map-append (λ r. r.name) rows (row ∷ []))
 
 pub more_rows : (o : Option (List ℕ)) (rows : List MpsRow) (names : List (List ℕ)) (kind : RowKind) (name : List ℕ) → AreRows o rows names → is_among name names ≡ false → IsRowName name
     → AreRows o (rows ++ fresh_row kind name ∷ []) (names ++ name ∷ [])
 more_rows o rows names kind name h new is = record {
   each = All-push IsMpsRow rows (fresh_row kind name) h.each (record { name = is; side = zero_is; range = tt });
-  apart = subst (λ (ns : List (List ℕ)). AreApart ns) (sym (listed_push o rows (fresh_row kind name))) (apart_push (listed o (names_of rows)) name h.apart (misses_among name names (listed o (names_of rows)) new h.known));
-  known = subst (AreAmong (names ++ name ∷ [])) (sym (listed_push o rows (fresh_row kind name))) (among_push names (listed o (names_of rows)) name h.known);
+  apart = subst (λ (ns : List (List ℕ)). AreApart ns) (sym (with_objective-push o rows (fresh_row kind name))) (apart_push (with_objective o (names_of rows)) name h.apart (misses_among name names (with_objective o (names_of rows)) new h.known));
+  known = subst (AreAmong (names ++ name ∷ [])) (sym (with_objective-push o rows (fresh_row kind name))) (among_push names (with_objective o (names_of rows)) name h.known);
 }
 
 -- what a name stands for
@@ -87,18 +87,18 @@ single_push [] x one alone zero (suc s) k hr hs = cc
 single_push [] x one alone (suc r) s k hr hs = cc
 single_push (t ∷ states) x one alone zero zero k hr hs = refl
 single_push (t ∷ states) x one alone zero (suc s) k hr hs =
-    absurd (at_push (λ (st : RowState). st.place ≡ Kept k → ⊥) states s x (fresh Dropped) (λ h. not_suc s (one zero (suc s) k hr h)) (λ h. alone zero k hr h) hs)
+    absurd (at_push (λ (st : RowState). st.place ≡ Kept k → ⊥) states s x (fresh_state Dropped) (λ h. not_suc s (one zero (suc s) k hr h)) (λ h. alone zero k hr h) hs)
 single_push (t ∷ states) x one alone (suc r) zero k hr hs =
-    absurd (at_push (λ (st : RowState). st.place ≡ Kept k → ⊥) states r x (fresh Dropped) (λ h. not_suc r (one zero (suc r) k hs h)) (λ h. alone zero k hs h) hr)
+    absurd (at_push (λ (st : RowState). st.place ≡ Kept k → ⊥) states r x (fresh_state Dropped) (λ h. not_suc r (one zero (suc r) k hs h)) (λ h. alone zero k hs h) hr)
 single_push (t ∷ states) x one alone (suc r) (suc s) k hr hs =
     ap suc (single_push states x (λ r s k hr hs. suc_same r s (one (suc r) (suc s) k hr hs)) (λ r k. alone (suc r) k) r s k hr hs)
 
-pub free_single : (states : List RowState) (o : Option (List ℕ)) → AreSingle states → AreSingle (states ++ fresh (free_place o) ∷ [])
-free_single states o h = record { each = single_push states (fresh (free_place o)) h.each (λ r k hr here. free_not_kept o k here) }
+pub free_single : (states : List RowState) (o : Option (List ℕ)) → AreSingle states → AreSingle (states ++ fresh_state (free_place o) ∷ [])
+free_single states o h = record { each = single_push states (fresh_state (free_place o)) h.each (λ r k hr here. free_not_kept o k here) }
 
-pub kept_single : (states : List RowState) (kept : ℕ) → AreSingle states → ((row : ℕ) → IsPlaced kept (state_at states row).place) → AreSingle (states ++ fresh (Kept kept) ∷ [])
+pub kept_single : (states : List RowState) (kept : ℕ) → AreSingle states → ((row : ℕ) → IsPlaced kept (state_at states row).place) → AreSingle (states ++ fresh_state (Kept kept) ∷ [])
 kept_single states kept h placed =
-    record { each = single_push states (fresh (Kept kept)) h.each (λ r k hr here. omega (arith, placed_below kept k (state_at states r).place (placed r) hr, kept_number kept k here)) }
+    record { each = single_push states (fresh_state (Kept kept)) h.each (λ r k hr here. omega (arith, placed_below kept k (state_at states r).place (placed r) hr, kept_number kept k here)) }
 
 -- entries have known rows alone
 
@@ -114,15 +114,15 @@ column_misses n col is = below_misses n col.entries is.entries
 marked_push : (states : List RowState) (cols : List MpsCol) (marks : List Mark) (x : RowState) → AreMarked states cols marks → ((k col : ℕ) → x.place ≡ Kept k → Misses k (rows_in (column_at cols col))) → AreMarked (states ++ x ∷ []) cols marks
 marked_push states cols marks x h new = record {
   each = λ r k col at none.
-      at_push (λ (st : RowState). st.place ≡ Kept k → Misses k (rows_in (column_at cols col))) states r x (fresh Dropped) (λ is. h.each r k col is none) (new k col) at;
+      at_push (λ (st : RowState). st.place ≡ Kept k → Misses k (rows_in (column_at cols col))) states r x (fresh_state Dropped) (λ is. h.each r k col is none) (new k col) at;
 }
 
-pub free_marked : (states : List RowState) (cols : List MpsCol) (marks : List Mark) (o : Option (List ℕ)) → AreMarked states cols marks → AreMarked (states ++ fresh (free_place o) ∷ []) cols marks
-free_marked states cols marks o h = marked_push states cols marks (fresh (free_place o)) h (λ k col is. absurd (free_not_kept o k is))
+pub free_marked : (states : List RowState) (cols : List MpsCol) (marks : List Mark) (o : Option (List ℕ)) → AreMarked states cols marks → AreMarked (states ++ fresh_state (free_place o) ∷ []) cols marks
+free_marked states cols marks o h = marked_push states cols marks (fresh_state (free_place o)) h (λ k col is. absurd (free_not_kept o k is))
 
-pub kept_marked : (states : List RowState) (cols : List MpsCol) (names : List (List ℕ)) (marks : List Mark) (kept : ℕ) → AreMarked states cols marks → AreColumns kept cols names → AreMarked (states ++ fresh (Kept kept) ∷ []) cols marks
+pub kept_marked : (states : List RowState) (cols : List MpsCol) (names : List (List ℕ)) (marks : List Mark) (kept : ℕ) → AreMarked states cols marks → AreColumns kept cols names → AreMarked (states ++ fresh_state (Kept kept) ∷ []) cols marks
 kept_marked states cols names marks kept h columns =
-    marked_push states cols marks (fresh (Kept kept)) h
+    marked_push states cols marks (fresh_state (Kept kept)) h
     (λ k col is. subst (λ (n : ℕ). Misses n (rows_in (column_at cols col))) (kept_number kept k is)
     (at_each (IsColumn kept) (λ (c : MpsCol). Misses kept (rows_in c)) cols col (fresh_column false []) columns.each (column_misses kept) tt))
 
@@ -140,7 +140,7 @@ more_column n col h = record {
 }
 
 pub more_columns : (kept : ℕ) (cols : List MpsCol) (names : List (List ℕ)) → AreColumns kept cols names → AreColumns (kept + 1) cols names
-more_columns kept cols names h = record { each = All-weaker (IsColumn kept) (IsColumn (kept + 1)) (more_column kept) cols h.each; named = h.named; apart = h.apart }
+more_columns kept cols names h = record { each = All-weaker (IsColumn kept) (IsColumn (kept + 1)) (more_column kept) cols h.each; same_names = h.same_names; apart = h.apart }
 
 -- values
 
@@ -176,14 +176,14 @@ value_rows kind (Kept row) value o rows names v h =
     let same = map_set_same (λ (r : MpsRow). r.name) rows row (valued_row kind value old) d (valued_name kind value old) in
     record {
       each = each_set IsMpsRow rows row (valued_row kind value old) d h.each (valued_is kind value old v);
-      apart = subst (λ (ns : List (List ℕ)). AreApart (listed o ns)) (sym same) h.apart;
-      known = subst (λ (ns : List (List ℕ)). AreAmong names (listed o ns)) (sym same) h.known;
+      apart = subst (λ (ns : List (List ℕ)). AreApart (with_objective o ns)) (sym same) h.apart;
+      known = subst (λ (ns : List (List ℕ)). AreAmong names (with_objective o ns)) (sym same) h.known;
     }
 
-pub value_single : (kind : ValueKind) (n : ℕ) (states : List RowState) → AreSingle states → AreSingle (with_marked kind n states)
+pub value_single : (kind : ValueKind) (n : ℕ) (states : List RowState) → AreSingle states → AreSingle (with_marked_state kind n states)
 value_single kind n states h = record {
-  each = λ r s k hr hs. h.each r s k (sym (with_marked-place kind n states r) ∙ hr) (sym (with_marked-place kind n states s) ∙ hs);
+  each = λ r s k hr hs. h.each r s k (sym (with_marked_state-place kind n states r) ∙ hr) (sym (with_marked_state-place kind n states s) ∙ hs);
 }
 
-pub value_marked : (kind : ValueKind) (n : ℕ) (states : List RowState) (cols : List MpsCol) (marks : List Mark) → AreMarked states cols marks → AreMarked (with_marked kind n states) cols marks
-value_marked kind n states cols marks h = record { each = λ r k col at none. h.each r k col (sym (with_marked-place kind n states r) ∙ at) none }
+pub value_marked : (kind : ValueKind) (n : ℕ) (states : List RowState) (cols : List MpsCol) (marks : List Mark) → AreMarked states cols marks → AreMarked (with_marked_state kind n states) cols marks
+value_marked kind n states cols marks h = record { each = λ r k col at none. h.each r k col (sym (with_marked_state-place kind n states r) ∙ at) none }

@@ -2,13 +2,13 @@ use Rattle.std.proofs.Common.{◌≡◌, ◌<◌, ◌+◌, ℕ, Bool, true, fals
 use Rattle.std.specs.List.{list_all}
 use Rattle.std.proofs.lemmas.Bool.{false≢true, true≢false}
 use Rattle.ip_core.specs.Decimals.{Number, IsDecimal}
-use Rattle.mps_read.specs.Names.{is_among, place_among, extended}
+use Rattle.mps_read.specs.Names.{is_among, place_among, with_item}
 use Rattle.mps_lines.specs.Lines.{is_visible}
 use Rattle.mps_read.specs.Numerals.{decimal_of}
 use Rattle.mps_lines.specs.Forms.{Form, Pair, Blank, Spoilt, Head, UnknownHead, Stray, Miscounted, SenseLine, FreeRow, KeptRow, UntypedRow, Marker, UnknownMarker, Entries, Values, BoundLine, UntypedBound}
-use Rattle.mps_read.specs.Sets.{is_used, first_given}
+use Rattle.mps_read.specs.Sets.{is_used, first_name}
 use Rattle.mps_model.specs.Prints.{fresh_row}
-use Rattle.mps_read.specs.DraftRows.{fresh, free_place, state_at, is_tested, place_of_pair}
+use Rattle.mps_read.specs.DraftRows.{fresh_state, free_place, state_at, is_tested, place_of_pair}
 use Rattle.mps_read.specs.DraftKinds.{draft_kind, values_use, has_mark, is_repeated_in}
 use Rattle.mps_read.specs.Kinds.{rank_of}
 use Rattle.mps_read.specs.Drafts.{IsDraft}
@@ -34,48 +34,48 @@ use Rattle.mps_read.proofs.ModelAllowed.{free_allowed, row_allowed, entries_allo
 
 -- section lines
 
-headed : (d : Draft) (section : Option Section) (title : List ℕ) → IsReadable d → IsHeader section title d.objective
+with_header-readable : (d : Draft) (section : Option Section) (title : List ℕ) → IsReadable d → IsHeader section title d.objective
     → AreReadable section title d.objective d.constant d.rows d.row_names d.row_states d.kept d.cols d.column_names d.marks
-headed d section title is header = record { header = header; constant_is = is.constant_is; rows_are = is.rows_are; single = is.single; columns = is.columns; marked = is.marked }
+with_header-readable d section title is header = record { header = header; constant_is = is.constant_is; rows_are = is.rows_are; single = is.single; columns = is.columns; marks_are = is.marks_are }
 
-sectioned : (d : Draft) (section : Section) → IsReadable d → (nat_le 4 (rank_of (Some section)) ≡ true → is_some d.objective ≡ true)
+with_section-readable : (d : Draft) (section : Section) → IsReadable d → (nat_le 4 (rank_of (Some section)) ≡ true → is_some d.objective ≡ true)
     → AreReadable (Some section) d.name d.objective d.constant d.rows d.row_names d.row_states d.kept d.cols d.column_names d.marks
-sectioned d section is begun = headed d (Some section) d.name is (record { name = is.header.name; row_name = is.header.row_name; begun = begun })
+with_section-readable d section is has_objective = with_header-readable d (Some section) d.name is (record { name = is.header.name; row_name = is.header.row_name; has_objective = has_objective })
 
 head_readable : (d : Draft) (section : Section) (word : List ℕ) → IsReadable d → list_all is_visible word ≡ true → draft_kind d (Head section word) ≡ None → IsReadable (after_head d section word)
-head_readable d Name word is visible a = headed d (Some Name) word is (record { name = name_is word visible (name_allowed d word a); row_name = is.header.row_name; begun = λ h. absurd (false≢true h) })
-head_readable d Objsense word is visible a = sectioned d Objsense is (λ h. absurd (false≢true h))
-head_readable d Rows word is visible a = sectioned d Rows is (λ h. absurd (false≢true h))
-head_readable d Columns word is visible a = sectioned d Columns is (λ h. columns_allowed d word a)
-head_readable d Rhs word is visible a = sectioned d Rhs is (λ h. is.header.begun (rhs_allowed d word a))
-head_readable d Ranges word is visible a = sectioned d Ranges is (λ h. is.header.begun (ranges_allowed d word a))
-head_readable d Bounds word is visible a = sectioned d Bounds is (λ h. is.header.begun (bounds_allowed d word a))
-head_readable d Endata word is visible a = sectioned d Endata is (λ h. is.header.begun (end_allowed d word a))
+head_readable d Name word is visible a = with_header-readable d (Some Name) word is (record { name = name_is word visible (name_allowed d word a); row_name = is.header.row_name; has_objective = λ h. absurd (false≢true h) })
+head_readable d Objsense word is visible a = with_section-readable d Objsense is (λ h. absurd (false≢true h))
+head_readable d Rows word is visible a = with_section-readable d Rows is (λ h. absurd (false≢true h))
+head_readable d Columns word is visible a = with_section-readable d Columns is (λ h. columns_allowed d word a)
+head_readable d Rhs word is visible a = with_section-readable d Rhs is (λ h. is.header.has_objective (rhs_allowed d word a))
+head_readable d Ranges word is visible a = with_section-readable d Ranges is (λ h. is.header.has_objective (ranges_allowed d word a))
+head_readable d Bounds word is visible a = with_section-readable d Bounds is (λ h. is.header.has_objective (bounds_allowed d word a))
+head_readable d Endata word is visible a = with_section-readable d Endata is (λ h. is.header.has_objective (end_allowed d word a))
 
 -- rows
 
 free_by : (b : Bool) (d : Draft) (name : List ℕ) → b ≡ false → is_among name d.row_names ≡ b → IsReadable d → IsRowName name
-    → AreReadable d.section d.name (first_given d.objective name) d.constant d.rows (if b then d.row_names else d.row_names ++ name ∷ []) (extended b (fresh (free_place d.objective)) d.row_states) d.kept d.cols d.column_names d.marks
+    → AreReadable d.section d.name (first_name d.objective name) d.constant d.rows (if b then d.row_names else d.row_names ++ name ∷ []) (with_item b (fresh_state (free_place d.objective)) d.row_states) d.kept d.cols d.column_names d.marks
 free_by true d name other new is row_name = absurd (true≢false other)
 free_by false d name other new is row_name = record {
-  header = record { name = is.header.name; row_name = given_objective d.objective name is.header.row_name row_name; begun = λ h. given_some d.objective name };
+  header = record { name = is.header.name; row_name = given_objective d.objective name is.header.row_name row_name; has_objective = λ h. given_some d.objective name };
   constant_is = is.constant_is;
   rows_are = free_rows d.objective d.rows d.row_names name is.rows_are new;
   single = free_single d.row_states d.objective is.single;
   columns = is.columns;
-  marked = free_marked d.row_states d.cols d.marks d.objective is.marked;
+  marks_are = free_marked d.row_states d.cols d.marks d.objective is.marks_are;
 }
 
 row_by : (b : Bool) (d : Draft) (kind : RowKind) (name : List ℕ) → b ≡ false → is_among name d.row_names ≡ b → IsDraft d → IsReadable d → IsRowName name
-    → AreReadable d.section d.name d.objective d.constant (extended b (fresh_row kind name) d.rows) (if b then d.row_names else d.row_names ++ name ∷ []) (extended b (fresh (Kept d.kept)) d.row_states) (if b then d.kept else d.kept + 1) d.cols d.column_names d.marks
+    → AreReadable d.section d.name d.objective d.constant (with_item b (fresh_row kind name) d.rows) (if b then d.row_names else d.row_names ++ name ∷ []) (with_item b (fresh_state (Kept d.kept)) d.row_states) (if b then d.kept else d.kept + 1) d.cols d.column_names d.marks
 row_by true d kind name other new draft is row_name = absurd (true≢false other)
 row_by false d kind name other new draft is row_name = record {
   header = is.header;
   constant_is = is.constant_is;
   rows_are = more_rows d.objective d.rows d.row_names kind name is.rows_are new row_name;
-  single = kept_single d.row_states d.kept is.single draft.placed;
+  single = kept_single d.row_states d.kept is.single draft.places;
   columns = more_columns d.kept d.cols d.column_names is.columns;
-  marked = kept_marked d.row_states d.cols d.column_names d.marks d.kept is.marked is.columns;
+  marks_are = kept_marked d.row_states d.cols d.column_names d.marks d.kept is.marks_are is.columns;
 }
 
 -- entries
@@ -86,7 +86,7 @@ entry_readable d e col pair draft is states kept unmarked =
     let row : ℕ = place_among pair.row d.row_names in
     let place : RowPlace = place_of_pair d.row_names d.row_states pair in
     entered_readable e row place col (decimal_of pair.numeral) is (decimal_of_is pair.numeral)
-    (λ k at. subst (λ (n : ℕ). k < n) (sym kept) (placed_below d.kept k place (draft.placed row) at))
+    (λ k at. subst (λ (n : ℕ). k < n) (sym kept) (placed_below d.kept k place (draft.places row) at))
     (ap (λ ss. (state_at ss row).place) states) unmarked
 
 entries_readable : (d : Draft) (column : List ℕ) (first : Pair) (second : Option Pair) → IsDraft d → IsReadable (after_column d column) → is_repeated_in d (Entries column first second) ≡ false → IsReadable (after d (Entries column first second))
@@ -116,7 +116,7 @@ given_readable d kind row place value v is = record {
   rows_are = value_rows kind place value d.objective d.rows d.row_names v is.rows_are;
   single = value_single kind row d.row_states is.single;
   columns = is.columns;
-  marked = value_marked kind row d.row_states d.cols d.marks is.marked;
+  marks_are = value_marked kind row d.row_states d.cols d.marks is.marks_are;
 }
 
 given_pair_readable : (from d : Draft) (kind : ValueKind) (pair : Pair) → IsReadable d → IsReadable (after_value_pair from kind pair d)
@@ -143,7 +143,7 @@ bound_readable d kind set column value v is = record {
   rows_are = is.rows_are;
   single = is.single;
   columns = bound_columns kind value (place_among column d.column_names) d.kept d.cols d.column_names v is.columns;
-  marked = bound_marked kind value (place_among column d.column_names) d.row_states d.cols d.marks is.marked;
+  marks_are = bound_marked kind value (place_among column d.column_names) d.row_states d.cols d.marks is.marks_are;
 }
 
 -- every line

@@ -44,8 +44,8 @@ within_len : (n m : ℕ) → nat_lt n m ≡ true → n < m
 within_len n m h = grind (arith, nat_tests)
 
 -- what a look-up among keys says of the names that they are
-pub found : {A : Type 0} (f : A → List ℕ) (keys : List A) (name : List ℕ) (names : List (List ℕ)) (r : Option ℕ) → r ≡ position (λ k. bytes_eq name (f k)) keys → map f keys ≡ names → MatchOption r (is_among name names ≡ false) (λ k. (is_among name names ≡ true) × (k ≡ place_among name names) × (k < length names))
-found {A} f keys name names r at view =
+pub found_place : {A : Type 0} (f : A → List ℕ) (keys : List A) (name : List ℕ) (names : List (List ℕ)) (r : Option ℕ) → r ≡ position (λ k. bytes_eq name (f k)) keys → map f keys ≡ names → MatchOption r (is_among name names ≡ false) (λ k. (is_among name names ≡ true) × (k ≡ place_among name names) × (k < length names))
+found_place {A} f keys name names r at view =
     let p : List ℕ → Bool = bytes_eq name in
     let q : A → Bool = λ k. bytes_eq name (f k) in
     let any : is_among name names ≡ list_any q keys = ap (list_any p) (sym view) ∙ list_any_images f p keys in
@@ -57,13 +57,13 @@ found {A} f keys name names r at view =
     (λ fails. any ∙ place_outside q keys (outside_len _ _ fails))
     (λ ok. (any ∙ place_within q keys (within_len _ _ ok), sym place, rw long (within_len _ _ ok))))
 
-added_by : {A : Type 0} (f : A → List ℕ) (b : Bool) (keys : List A) (owned : A) → map f (if b then keys else keys ++ owned ∷ []) ≡ (if b then map f keys else map f keys ++ f owned ∷ [])
-added_by f true keys owned = refl
-added_by f false keys owned = map-append f keys (owned ∷ [])
+added_names-by : {A : Type 0} (f : A → List ℕ) (b : Bool) (keys : List A) (owned : A) → map f (if b then keys else keys ++ owned ∷ []) ≡ (if b then map f keys else map f keys ++ f owned ∷ [])
+added_names-by f true keys owned = refl
+added_names-by f false keys owned = map-append f keys (owned ∷ [])
 
 -- the names after a key is inserted
-pub added : {A : Type 0} (f : A → List ℕ) (keys after : List A) (owned : A) (name : List ℕ) (names : List (List ℕ)) → after ≡ (if list_any (λ k. bytes_eq (f owned) (f k)) keys then keys else keys ++ owned ∷ []) → f owned ≡ name → map f keys ≡ names → map f after ≡ with_name name names
-added {A} f keys after owned name names is owned_is view =
+pub added_names : {A : Type 0} (f : A → List ℕ) (keys after : List A) (owned : A) (name : List ℕ) (names : List (List ℕ)) → after ≡ (if list_any (λ k. bytes_eq (f owned) (f k)) keys then keys else keys ++ owned ∷ []) → f owned ≡ name → map f keys ≡ names → map f after ≡ with_name name names
+added_names {A} f keys after owned name names is owned_is view =
     let any : is_among (f owned) (map f keys) ≡ list_any (λ k. bytes_eq (f owned) (f k)) keys = list_any_images f (bytes_eq (f owned)) keys in
-    let here : map f after ≡ with_name (f owned) (map f keys) = rw (is, any) (added_by f (list_any (λ k. bytes_eq (f owned) (f k)) keys) keys owned) in
+    let here : map f after ≡ with_name (f owned) (map f keys) = rw (is, any) (added_names-by f (list_any (λ k. bytes_eq (f owned) (f k)) keys) keys owned) in
     here ∙ ap (λ n. with_name n (map f keys)) owned_is ∙ ap (with_name name) view

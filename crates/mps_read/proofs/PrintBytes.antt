@@ -16,8 +16,8 @@ use Rattle.ip_core.specs.Prints.{numeral_text, number_text}
 use Rattle.ip_core.proofs.DecimalDigits.{and_true, le_of_test}
 use Rattle.ip_core.proofs.DecimalPrints.{written_digits, last_are_digits}
 use Rattle.mps_lines.specs.Lines.{with_byte, lines_of, pieces, fields, is_separator, is_visible, is_line_byte, is_filled}
-use Rattle.mps_model.specs.MpsModels.{IsField}
-use Rattle.mps_model.specs.Prints.{spaced}
+use Rattle.mps_model.specs.MpsModels.{IsFieldName}
+use Rattle.mps_model.specs.Prints.{fields_text}
 
 -- the bytes of a printed text as lines, and lines as fields
 
@@ -62,10 +62,10 @@ word_parts w ws h =
     let q = and_true (list_all is_visible w) (is_filled w) p.0 in
     (q.0, (q.1, p.1))
 
-spaced_pieces : (ws : List (List ℕ)) → list_all is_word ws ≡ true → pieces (spaced ws) ≡ [] ∷ ws
-spaced_pieces [] h = refl
-spaced_pieces (w ∷ ws) h =
-    let p = word_parts w ws h in ap (λ ps. [] ∷ ps) (word_pieces w (spaced ws) ws p.0 (spaced_pieces ws p.1.1))
+pieces-fields_text : (ws : List (List ℕ)) → list_all is_word ws ≡ true → pieces (fields_text ws) ≡ [] ∷ ws
+pieces-fields_text [] h = refl
+pieces-fields_text (w ∷ ws) h =
+    let p = word_parts w ws h in ap (λ ps. [] ∷ ps) (word_pieces w (fields_text ws) ws p.0 (pieces-fields_text ws p.1.1))
 
 kept_by : (t : Bool) (w : List ℕ) (fs ws : List (List ℕ)) → t ≡ true → fs ≡ ws → cond t (w ∷ fs) fs ≡ w ∷ ws
 kept_by t w fs ws h is = rw (h, is) refl
@@ -75,13 +75,13 @@ filled_words [] h = refl
 filled_words (w ∷ ws) h = let p = word_parts w ws h in kept_by (is_filled w) w (filter is_filled ws) ws p.1.0 (filled_words ws p.1.1)
 
 -- the fields of a data line
-pub spaced_fields : (ws : List (List ℕ)) → list_all is_word ws ≡ true → fields (spaced ws) ≡ ws
-spaced_fields ws h = ap (filter is_filled) (spaced_pieces ws h) ∙ filled_words ws h
+pub fields-fields_text : (ws : List (List ℕ)) → list_all is_word ws ≡ true → fields (fields_text ws) ≡ ws
+fields-fields_text ws h = ap (filter is_filled) (pieces-fields_text ws h) ∙ filled_words ws h
 
 -- the fields of a section line
-pub head_fields : (w : List ℕ) (ws : List (List ℕ)) → list_all is_word (w ∷ ws) ≡ true → fields (w ++ spaced ws) ≡ w ∷ ws
+pub head_fields : (w : List ℕ) (ws : List (List ℕ)) → list_all is_word (w ∷ ws) ≡ true → fields (w ++ fields_text ws) ≡ w ∷ ws
 head_fields w ws h =
-    let p = word_parts w ws h in ap (filter is_filled) (word_pieces w (spaced ws) ws p.0 (spaced_pieces ws p.1.1)) ∙ filled_words (w ∷ ws) h
+    let p = word_parts w ws h in ap (filter is_filled) (word_pieces w (fields_text ws) ws p.0 (pieces-fields_text ws p.1.1)) ∙ filled_words (w ∷ ws) h
 
 visible_line : (w : List ℕ) → list_all is_visible w ≡ true → list_all is_line_byte w ≡ true
 visible_line [] h = refl
@@ -92,12 +92,12 @@ both : (p : ℕ → Bool) (xs ys : List ℕ) → list_all p xs ≡ true → list
 both p xs ys first second = list_all-append p xs ys ∙ ap (λ a. a && list_all p ys) first ∙ second
 
 -- a data line has the bytes that a line may hold
-pub spaced_line : (ws : List (List ℕ)) → list_all is_word ws ≡ true → list_all is_line_byte (spaced ws) ≡ true
-spaced_line [] h = refl
-spaced_line (w ∷ ws) h = let p = word_parts w ws h in both is_line_byte w (spaced ws) (visible_line w p.0) (spaced_line ws p.1.1)
+pub bytes-fields_text : (ws : List (List ℕ)) → list_all is_word ws ≡ true → list_all is_line_byte (fields_text ws) ≡ true
+bytes-fields_text [] h = refl
+bytes-fields_text (w ∷ ws) h = let p = word_parts w ws h in both is_line_byte w (fields_text ws) (visible_line w p.0) (bytes-fields_text ws p.1.1)
 
-pub head_line : (w : List ℕ) (ws : List (List ℕ)) → list_all is_word (w ∷ ws) ≡ true → list_all is_line_byte (w ++ spaced ws) ≡ true
-head_line w ws h = let p = word_parts w ws h in both is_line_byte w (spaced ws) (visible_line w p.0) (spaced_line ws p.1.1)
+pub head_line : (w : List ℕ) (ws : List (List ℕ)) → list_all is_word (w ∷ ws) ≡ true → list_all is_line_byte (w ++ fields_text ws) ≡ true
+head_line w ws h = let p = word_parts w ws h in both is_line_byte w (fields_text ws) (visible_line w p.0) (bytes-fields_text ws p.1.1)
 
 -- lines of two, three and four fields
 
@@ -133,7 +133,7 @@ word_by w first second = ap (λ a. a && is_filled w) first ∙ second
 pub name_word : (b : ℕ) (w : List ℕ) → IsName (b ∷ w) → is_word (b ∷ w) ≡ true
 name_word b w h = word_by (b ∷ w) (visible_name (b ∷ w) h.visible) (filled_cons b w)
 
-pub field_word : (w : List ℕ) → IsField w → is_word w ≡ true
+pub field_word : (w : List ℕ) → IsFieldName w → is_word w ≡ true
 field_word w h = word_by w (visible_name w h.is_name.visible) (filled_name w h.nonempty)
 
 digit_visible : (b : ℕ) → is_digit b ≡ true → is_visible b ≡ true
@@ -148,8 +148,8 @@ digits_visible [] h = refl
 digits_visible (d ∷ ds) h =
     let p = and_true (is_digit d) (list_all is_digit ds) h in ap (λ s. s && list_all is_visible ds) (digit_visible d p.0) ∙ digits_visible ds p.1
 
-written : (n : ℕ) → n < 2 ^ 64 → list_all is_visible (decimal_digits n) ≡ true
-written n small = digits_visible (decimal_digits n) (written_digits n small)
+decimal_digits-visible : (n : ℕ) → n < 2 ^ 64 → list_all is_visible (decimal_digits n) ≡ true
+decimal_digits-visible n small = digits_visible (decimal_digits n) (written_digits n small)
 
 filled_long : (w : List ℕ) → 0 < length w → is_filled w ≡ true
 filled_long [] h = absurd (omega (arith, h))
@@ -165,11 +165,11 @@ more_word w t h more =
     word_by (w ++ t) (both is_visible w t p.0 more) (filled_front w t p.1)
 
 digits_word : (n : ℕ) → n < 2 ^ 64 → is_word (decimal_digits n) ≡ true
-digits_word n small = word_by (decimal_digits n) (written n small) (filled_long (decimal_digits n) (decimal_nonempty n small))
+digits_word n small = word_by (decimal_digits n) (decimal_digits-visible n small) (filled_long (decimal_digits n) (decimal_nonempty n small))
 
 signed_word : (m : ℤ) → unsigned_abs m < 10 ^ 18 → is_word (signed_decimal m) ≡ true
 signed_word (pos n) few = digits_word n (omega (arith, few))
-signed_word (negsuc n) few = word_by (45 ∷ decimal_digits (suc n)) (written (suc n) (omega (arith, few))) (filled_cons 45 (decimal_digits (suc n)))
+signed_word (negsuc n) few = word_by (45 ∷ decimal_digits (suc n)) (decimal_digits-visible (suc n) (omega (arith, few))) (filled_cons 45 (decimal_digits (suc n)))
 
 sign_visible : (negative : Bool) → list_all is_visible (sign_text negative) ≡ true
 sign_visible true = refl
@@ -190,7 +190,7 @@ numeral_word : (m e : ℤ) → unsigned_abs m < 10 ^ 18 → e ≤ℤ pos 400 →
 numeral_word m (pos zero) few most = signed_word m few
 numeral_word m (pos (suc n)) few most =
     let small : suc n < 2 ^ 64 = omega (arith, ints, most) in
-    more_word (signed_decimal m) (101 ∷ decimal_digits (suc n)) (signed_word m few) (written (suc n) small)
+    more_word (signed_decimal m) (101 ∷ decimal_digits (suc n)) (signed_word m few) (decimal_digits-visible (suc n) small)
 numeral_word m (negsuc e) few most =
     ap is_word (append_assoc (sign_text (int_lt m (pos 0))) (decimal_digits (unsigned_abs m / 10 ^ suc e)) (46 ∷ last_digits (suc e) (unsigned_abs m)))
     ∙ point_word (int_lt m (pos 0)) (unsigned_abs m) e few

@@ -17,12 +17,12 @@ use Rattle.mps_read.specs.DraftKinds.{draft_kind, has_mark}
 use Rattle.mps_read.specs.Kinds.{is_split_column}
 use Rattle.mps_read.specs.Readings.{Reading, Read, outcome}
 use Rattle.mps_read.specs.Steps.{draft_model, after, run}
-use Rattle.mps_model.specs.Prints.{spaced, data_line}
+use Rattle.mps_model.specs.Prints.{fields_text, data_line}
 use Rattle.mps_model.specs.declared.model.RowKind.{RowKind}
 use Rattle.mps_lines.specs.declared.section.ValueKind.TheVariants.{Side, Range}
 use Rattle.mps_lines.specs.declared.section.BoundKind.{BoundKind}
 use Rattle.mps_read.specs.declared.draft.Draft.{Draft}
-use Rattle.mps_read.proofs.PrintBytes.{is_word, line_first, spaced_line, spaced_fields}
+use Rattle.mps_read.proofs.PrintBytes.{is_word, line_first, bytes-fields_text, fields-fields_text}
 
 -- reading one printed line, and what follows it
 
@@ -46,14 +46,14 @@ pub data_step : (d e : Draft) (w : List ℕ) (ws : List (List ℕ)) (rest : List
     → words_form d.section d.has_sense_line true (words_of (w ∷ ws)) ≡ f → draft_kind d f ≡ None → is_end f ≡ false → after d f ≡ e → Gives e rest r
     → Gives d (data_line (w ∷ ws) ++ rest) r
 data_step d e w ws rest f r words form allowed more next gives =
-    let line : List ℕ = spaced (w ∷ ws) in
+    let line : List ℕ = fields_text (w ∷ ws) in
     let is : form_of d.section d.has_sense_line line ≡ f =
-    ap (λ b. if not b then Spoilt else words_form d.section d.has_sense_line true (words_of (fields line))) (spaced_line (w ∷ ws) words)
-    ∙ ap (λ fs. words_form d.section d.has_sense_line true (words_of fs)) (spaced_fields (w ∷ ws) words)
+    ap (λ b. if not b then Spoilt else words_form d.section d.has_sense_line true (words_of (fields line))) (bytes-fields_text (w ∷ ws) words)
+    ∙ ap (λ fs. words_form d.section d.has_sense_line true (words_of fs)) (fields-fields_text (w ∷ ws) words)
     ∙ form
     in
     subst (λ (t : List ℕ). Gives d t r) (sym (append_assoc line (codes "\n") rest))
-    (line_step d e line rest f r (spaced_line (w ∷ ws) words) is allowed more next gives)
+    (line_step d e line rest f r (bytes-fields_text (w ∷ ws) words) is allowed more next gives)
 
 pub not_long : (w : List ℕ) → IsName w → is_long w ≡ false
 not_long w h = let short = h.short in grind (arith, nat_tests)

@@ -27,15 +27,15 @@ abbrev pub column_names : List MpsCol → List (List ℕ)
 column_names cols = map (λ col. col.name) cols
 
 -- a row without its values, and without its range
-abbrev pub bare : MpsRow → MpsRow
-bare row = fresh_row row.kind row.name
+abbrev pub bare_row : MpsRow → MpsRow
+bare_row row = fresh_row row.kind row.name
 
-abbrev pub unranged : MpsRow → MpsRow
-unranged row = record row { range = None }
+abbrev pub without_range : MpsRow → MpsRow
+without_range row = record row { range = None }
 
 -- a column without its bounds
-abbrev pub unbounded : MpsCol → MpsCol
-unbounded col = record col { low = Unset; high = Unset }
+abbrev pub without_bounds : MpsCol → MpsCol
+without_bounds col = record col { low = Unset; high = Unset }
 
 abbrev pub place_of : RowState → RowPlace
 place_of s = s.place
@@ -48,7 +48,7 @@ places_from k (row ∷ rows) = Kept k ∷ places_from (k + 1) rows
 abbrev pub is_valueless : RowState → Bool
 is_valueless s = not s.has_side && not s.has_range
 
-pub record IsHeader (m : MpsModel) (name : List ℕ) (maximise : Option Bool) : Type 0 where
+pub record IsHeaderOf (m : MpsModel) (name : List ℕ) (maximise : Option Bool) : Type 0 where
   pub same_name : name ≡ m.name
   pub same_sense : is_maximise maximise ≡ m.maximise
 
@@ -68,12 +68,12 @@ pub record HasNoColumns (column_names : List (List ℕ)) (cols : List MpsCol) (i
 -- some rows are still to come
 pub record InRows (m : MpsModel) (todo : List MpsRow) (d : Draft) : Type 0 where
   pub section : d.section ≡ Some Rows
-  pub header : IsHeader m d.name d.maximise
+  pub header : IsHeaderOf m d.name d.maximise
   pub names : d.row_names ++ names_of todo ≡ m.objective ∷ names_of m.rows
   pub places : map place_of d.row_states ++ places_from d.kept todo ≡ Objective ∷ places_from 0 m.rows
   pub valueless : list_all is_valueless d.row_states ≡ true
   pub objective : d.objective ≡ Some m.objective
-  pub rows : d.rows ++ map bare todo ≡ map bare m.rows
+  pub rows : d.rows ++ map bare_row todo ≡ map bare_row m.rows
   pub columns : HasNoColumns d.column_names d.cols d.is_integer d.marks
   pub values : HasNoValues d.constant d.rhs d.ranges d.bounds
 
@@ -83,16 +83,16 @@ pub record AreRead (m : MpsModel) (names : List (List ℕ)) (states : List RowSt
   pub places : map place_of states ≡ Objective ∷ places_from 0 m.rows
   pub valueless : list_all is_valueless states ≡ true
   pub first : objective ≡ Some m.objective
-  pub all_rows : rows ≡ map bare m.rows
+  pub all_rows : rows ≡ map bare_row m.rows
 
 -- some columns are still to come
 pub record InColumns (m : MpsModel) (integer : Bool) (todo : List MpsCol) (d : Draft) : Type 0 where
   pub section : d.section ≡ Some Columns
-  pub header : IsHeader m d.name d.maximise
+  pub header : IsHeaderOf m d.name d.maximise
   pub rows : AreRead m d.row_names d.row_states d.objective d.rows
   pub values : HasNoValues d.constant d.rhs d.ranges d.bounds
   pub names : d.column_names ++ column_names todo ≡ column_names m.cols
   pub count : length d.cols ≡ length d.column_names
-  pub cols : d.cols ++ map unbounded todo ≡ map unbounded m.cols
+  pub cols : d.cols ++ map without_bounds todo ≡ map without_bounds m.cols
   pub turn : d.is_integer ≡ integer
   pub marks : (row col : ℕ) → length d.column_names ≤ col → has_mark row col d.marks ≡ false

@@ -7,7 +7,7 @@ use Rattle.ip_core.proofs.DecimalDigits.{and_true}
 use Rattle.mps_read.specs.Names.{is_among, place_among}
 use Rattle.mps_model.specs.Numbers.{zero_decimal, is_zero, is_zero_int}
 use Rattle.mps_model.specs.Prints.{fresh_row}
-use Rattle.mps_read.specs.DraftRows.{fresh, state_at}
+use Rattle.mps_read.specs.DraftRows.{fresh_state, state_at}
 use Rattle.mps_model.specs.MpsModels.{IsMpsModel, AreDistinct}
 use Rattle.mps_model.specs.Prints.{row_name}
 use Rattle.mps_model.specs.declared.model.RowKind.TheVariants.{Less}
@@ -24,8 +24,8 @@ use Rattle.mps_read.proofs.PrintPhases.{names_of, place_of, places_from, is_valu
 -- a row's name has this number and stands for this
 pub record IsRowOf (names : List (List ℕ)) (states : List RowState) (name : List ℕ) (number : ℕ) (place : RowPlace) : Type 0 where
   pub known : is_among name names ≡ true
-  pub numbered : place_among name names ≡ number
-  pub placed : (state_at states number).place ≡ place
+  pub same_number : place_among name names ≡ number
+  pub same_place : (state_at states number).place ≡ place
 
 pub read_map : {A B : Type 0} (f : A → B) (xs : List A) (i : ℕ) (d : A) → slice_index_or (map f xs) i (f d) ≡ f (slice_index_or xs i d)
 read_map f [] i d = refl
@@ -39,17 +39,17 @@ place_from k (row ∷ rows) (suc i) l =
     let e : k + 1 + i ≡ k + suc i = omega arith in place_from (k + 1) rows i (omega (arith, l)) ∙ ap Kept e
 
 placed_at : (states : List RowState) (i : ℕ) (places : List RowPlace) → map place_of states ≡ places → (state_at states i).place ≡ slice_index_or places i Dropped
-placed_at states i places h = sym (read_map place_of states i (fresh Dropped)) ∙ ap (λ ps. slice_index_or ps i Dropped) h
+placed_at states i places h = sym (read_map place_of states i (fresh_state Dropped)) ∙ ap (λ ps. slice_index_or ps i Dropped) h
 
-named : (m : MpsModel) (names : List (List ℕ)) → IsMpsModel m → names ≡ m.objective ∷ names_of m.rows → AreDistinct names []
-named m names valid is = subst (λ (ns : List (List ℕ)). AreDistinct ns []) (sym is) valid.row_names
+names_distinct : (m : MpsModel) (names : List (List ℕ)) → IsMpsModel m → names ≡ m.objective ∷ names_of m.rows → AreDistinct names []
+names_distinct m names valid is = subst (λ (ns : List (List ℕ)). AreDistinct ns []) (sym is) valid.row_names
 
 numbered_at : (m : MpsModel) (names : List (List ℕ)) (states : List RowState) (name : List ℕ) (i : ℕ) (place : RowPlace) → IsMpsModel m → names ≡ m.objective ∷ names_of m.rows
     → name ≡ slice_index_or names i [] → i < length names → (state_at states i).place ≡ place → IsRowOf names states name i place
 numbered_at m names states name i place valid all is within placed = record {
   known = ap (λ n. is_among n names) is ∙ among_at names i within;
-  numbered = ap (λ n. place_among n names) is ∙ place_at names i (named m names valid all) within;
-  placed = placed;
+  same_number = ap (λ n. place_among n names) is ∙ place_at names i (names_distinct m names valid all) within;
+  same_place = placed;
 }
 
 pub objective_row : (m : MpsModel) (names : List (List ℕ)) (states : List RowState) → IsMpsModel m → names ≡ m.objective ∷ names_of m.rows

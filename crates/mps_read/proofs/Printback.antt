@@ -3,7 +3,7 @@ use Rattle.std.proofs.lemmas.List.{append_assoc}
 use Rattle.mps_read.specs.Readings.{Read, reading}
 use Rattle.mps_read.specs.Drafts.{first_draft}
 use Rattle.mps_model.specs.MpsModels.{IsMpsModel}
-use Rattle.mps_model.specs.Prints.{data_line, name_line, sense_lines, row_lines, columns_lines, section_lines, sides_lines, range_lines, bound_lines, printed}
+use Rattle.mps_model.specs.Prints.{data_line, name_line, sense_lines, row_lines, columns_lines, section_lines, sides_lines, range_lines, bound_lines, canonical_text}
 use Rattle.mps_model.specs.declared.model.MpsModel.{MpsModel}
 use Rattle.mps_read.proofs.Bridge.{begins}
 use Rattle.mps_read.proofs.PrintLines.{Gives}
@@ -12,8 +12,8 @@ use Rattle.mps_read.proofs.PrintedColumns.{columns_section_back}
 use Rattle.mps_read.proofs.PrintedValues.{sides_section_back, ranges_section_back}
 use Rattle.mps_read.proofs.PrintedBounds.{bounds_section_back, end_back}
 
-regrouped : (a b c d e f g h i j k : List ℕ) → a ++ b ++ c ++ d ++ e ++ f ++ g ++ h ++ i ++ j ++ k ≡ a ++ (b ++ (c ++ (d ++ (e ++ (f ++ (g ++ (h ++ (i ++ (j ++ k)))))))))
-regrouped a b c d e f g h i j k =
+append-to_right : (a b c d e f g h i j k : List ℕ) → a ++ b ++ c ++ d ++ e ++ f ++ g ++ h ++ i ++ j ++ k ≡ a ++ (b ++ (c ++ (d ++ (e ++ (f ++ (g ++ (h ++ (i ++ (j ++ k)))))))))
+append-to_right a b c d e f g h i j k =
     append_assoc (a ++ b ++ c ++ d ++ e ++ f ++ g ++ h ++ i) j k
     ∙ append_assoc (a ++ b ++ c ++ d ++ e ++ f ++ g ++ h) i (j ++ k)
     ∙ append_assoc (a ++ b ++ c ++ d ++ e ++ f ++ g) h (i ++ (j ++ k))
@@ -25,8 +25,8 @@ regrouped a b c d e f g h i j k =
     ∙ append_assoc a b (c ++ (d ++ (e ++ (f ++ (g ++ (h ++ (i ++ (j ++ k))))))))
 
 -- a printed text gives its model, from the draft before the first line on
-printed_back : (m : MpsModel) → IsMpsModel m → Gives first_draft (printed m) (Read m)
-printed_back m valid =
+text_back : (m : MpsModel) → IsMpsModel m → Gives first_draft (canonical_text m) (Read m)
+text_back m valid =
     let sides : List ℕ = section_lines (codes "RHS") (sides_lines m) in
     let ranges : List ℕ = section_lines (codes "RANGES") (range_lines m.rows) in
     let bounds : List ℕ = section_lines (codes "BOUNDS") (bound_lines m.cols) in
@@ -35,8 +35,8 @@ printed_back m valid =
     let from_sides : List ℕ = sides ++ from_ranges in
     let from_columns : List ℕ = codes "COLUMNS\n" ++ (columns ++ from_sides) in
     let from_rows : List ℕ = codes "ROWS\n" ++ (data_line (codes "N" ∷ m.objective ∷ []) ++ (row_lines m.rows ++ from_columns)) in
-    let text : printed m ≡ name_line m.name ++ (sense_lines m.maximise ++ from_rows) =
-    regrouped (name_line m.name) (sense_lines m.maximise) (codes "ROWS\n") (data_line (codes "N" ∷ m.objective ∷ [])) (row_lines m.rows) (codes "COLUMNS\n") columns sides ranges bounds (codes "ENDATA\n")
+    let text : canonical_text m ≡ name_line m.name ++ (sense_lines m.maximise ++ from_rows) =
+    append-to_right (name_line m.name) (sense_lines m.maximise) (codes "ROWS\n") (data_line (codes "N" ∷ m.objective ∷ [])) (row_lines m.rows) (codes "COLUMNS\n") columns sides ranges bounds (codes "ENDATA\n")
     in
     subst (λ (t : List ℕ). Gives first_draft t (Read m)) (sym text)
     (name_back m.name (sense_lines m.maximise ++ from_rows) (Read m) valid.name
@@ -51,5 +51,5 @@ printed_back m valid =
     d rows))))
 
 -- reading a printed text gives its model again
-pub read_printed : (m : MpsModel) → IsMpsModel m → reading (printed m) ≡ Read m
-read_printed m valid = sym (begins first_draft (printed m) refl) ∙ (printed_back m valid).each 1
+pub reading_canonical_text : (m : MpsModel) → IsMpsModel m → reading (canonical_text m) ≡ Read m
+reading_canonical_text m valid = sym (begins first_draft (canonical_text m) refl) ∙ (text_back m valid).each 1

@@ -30,7 +30,7 @@ use Rattle.mps_read.specs.declared.draft.Draft.{Draft}
 use Rattle.mps_read.proofs.PrintBytes.{is_word, field_word, number_word, three_words, four_words}
 use Rattle.mps_read.proofs.PrintNames.{fresh_at, among_between, place_first}
 use Rattle.mps_read.proofs.PrintLines.{Gives, data_step, numeral_is, value_is, bound_allowed, plain_bound_allowed}
-use Rattle.mps_read.proofs.PrintPhases.{column_names, unbounded}
+use Rattle.mps_read.proofs.PrintPhases.{column_names, without_bounds}
 use Rattle.mps_read.proofs.PrintedValues.{IsFrame, IsLate, InRanges, is_nil, section_back, still_used}
 
 -- the bounds of a printed text, read back, and its end
@@ -38,13 +38,13 @@ use Rattle.mps_read.proofs.PrintedValues.{IsFrame, IsLate, InRanges, is_nil, sec
 -- the bounds of some columns are still to come: `current` has what the lines so far say of the next one
 record InBounds (m : MpsModel) (lines : List ℕ) (done : List MpsCol) (col current : MpsCol) (todo : List MpsCol) (d : Draft) : Type 0 where
   late : IsLate d.section
-  opened : is_nil lines ≡ false → d.section ≡ Some Bounds
+  in_section : is_nil lines ≡ false → d.section ≡ Some Bounds
   frame : IsFrame m d.name d.maximise d.row_names d.objective d.column_names
   split : done ++ col ∷ todo ≡ m.cols
   rows : d.rows ≡ m.rows
-  cols : d.cols ≡ done ++ current ∷ map unbounded todo
+  cols : d.cols ≡ done ++ current ∷ map without_bounds todo
   same_constant : d.constant ≡ m.constant
-  used : is_used d.bounds.set (codes "BND") ≡ true
+  uses_set : is_used d.bounds.set (codes "BND") ≡ true
 
 -- all bounds are there
 pub record IsWhole (m : MpsModel) (d : Draft) : Type 0 where
@@ -57,7 +57,7 @@ pub record IsWhole (m : MpsModel) (d : Draft) : Type 0 where
 -- a column between those done and those to come
 record IsBetween (names : List (List ℕ)) (name : List ℕ) (number : ℕ) : Type 0 where
   known : is_among name names ≡ true
-  numbered : place_among name names ≡ number
+  same_number : place_among name names ≡ number
 
 between_is : (m : MpsModel) → IsMpsModel m → (done : List MpsCol) (col : MpsCol) (todo : List MpsCol) (names : List (List ℕ)) → done ++ col ∷ todo ≡ m.cols → names ≡ column_names m.cols → IsBetween names col.name (length done)
 between_is m valid done col todo names split same =
@@ -68,7 +68,7 @@ between_is m valid done col todo names split same =
     let all : names ≡ column_names done ++ col.name ∷ column_names todo = same ∙ parted in
     record {
       known = ap (is_among col.name) all ∙ among_between (column_names done) col.name (column_names todo);
-      numbered =
+      same_number =
           ap (place_among col.name) all
           ∙ place_first (column_names done) col.name (column_names todo) (fresh_at (column_names done) col.name (column_names todo) distinct)
           ∙ length-map done (λ (c : MpsCol). c.name);
@@ -78,16 +78,16 @@ bound_kept : (m : MpsModel) (lines more : List ℕ) (done : List MpsCol) (col cu
     → InBounds m more done col (bounded_column kind value current) todo (record d { cols = with_bound kind value (length done) d.cols; bounds = with_set (codes "BND") d.bounds })
 bound_kept m lines more done col current todo d kind value filled h = record {
   late = h.late;
-  opened = λ some. h.opened filled;
+  in_section = λ some. h.in_section filled;
   frame = h.frame;
   split = h.split;
   rows = h.rows;
   cols =
       ap (with_bound kind value (length done)) h.cols
-      ∙ ap (λ c. slice_set (done ++ current ∷ map unbounded todo) (length done) (bounded_column kind value c)) (get_or_at done current (map unbounded todo) (fresh_column false []) (length done) refl)
-      ∙ set_at done current (map unbounded todo) (bounded_column kind value current) (length done) refl;
+      ∙ ap (λ c. slice_set (done ++ current ∷ map without_bounds todo) (length done) (bounded_column kind value c)) (get_or_at done current (map without_bounds todo) (fresh_column false []) (length done) refl)
+      ∙ set_at done current (map without_bounds todo) (bounded_column kind value current) (length done) refl;
   same_constant = h.same_constant;
-  used = still_used (codes "BND") d.bounds h.used;
+  uses_set = still_used (codes "BND") d.bounds h.uses_set;
 }
 
 -- the draft after a bound of the column of a number
@@ -112,9 +112,9 @@ valued_step m valid lines more done col current todo d kind word value rest r is
     let at : IsBetween d.column_names col.name (length done) = between_is m valid done col todo d.column_names h.split h.frame.same_columns in
     data_step d (bound_draft d kind value (length done)) word (codes "BND" ∷ col.name ∷ text ∷ []) rest (BoundLine kind (codes "BND") col.name text) r
     (four_words word (codes "BND") col.name text is_kind refl (field_word col.name is.name) (number_word value decimal))
-    (ap (λ s. words_form s d.has_sense_line true (words_of (word ∷ codes "BND" ∷ col.name ∷ text ∷ []))) (h.opened filled) ∙ form)
-    (bound_allowed d kind (codes "BND") col.name text h.used counts (numeral_is value decimal) at.known refl) refl
-    (bound_after d kind col.name text value (length done) h.used at.numbered (value_is value decimal))
+    (ap (λ s. words_form s d.has_sense_line true (words_of (word ∷ codes "BND" ∷ col.name ∷ text ∷ []))) (h.in_section filled) ∙ form)
+    (bound_allowed d kind (codes "BND") col.name text h.uses_set counts (numeral_is value decimal) at.known refl) refl
+    (bound_after d kind col.name text value (length done) h.uses_set at.same_number (value_is value decimal))
     (next (bound_draft d kind value (length done)) (bound_kept m lines more done col current todo d kind value filled h))
 
 plain_step : (m : MpsModel) → IsMpsModel m → (lines more : List ℕ) (done : List MpsCol) (col current : MpsCol) (todo : List MpsCol) (d : Draft) (kind : BoundKind) (word rest : List ℕ) (r : Reading)
@@ -126,83 +126,83 @@ plain_step m valid lines more done col current todo d kind word rest r is_kind f
     let at : IsBetween d.column_names col.name (length done) = between_is m valid done col todo d.column_names h.split h.frame.same_columns in
     data_step d (bound_draft d kind (decimal_of []) (length done)) word (codes "BND" ∷ col.name ∷ []) rest (BoundLine kind (codes "BND") col.name []) r
     (three_words word (codes "BND") col.name is_kind refl (field_word col.name is.name))
-    (ap (λ s. words_form s d.has_sense_line true (words_of (word ∷ codes "BND" ∷ col.name ∷ []))) (h.opened filled) ∙ form)
-    (plain_bound_allowed d kind (codes "BND") col.name h.used counts at.known refl) refl
-    (bound_after d kind col.name [] (decimal_of []) (length done) h.used at.numbered refl)
+    (ap (λ s. words_form s d.has_sense_line true (words_of (word ∷ codes "BND" ∷ col.name ∷ []))) (h.in_section filled) ∙ form)
+    (plain_bound_allowed d kind (codes "BND") col.name h.uses_set counts at.known refl) refl
+    (bound_after d kind col.name [] (decimal_of []) (length done) h.uses_set at.same_number refl)
     (next (bound_draft d kind (decimal_of []) (length done)) (bound_kept m lines more done col current todo d kind (decimal_of []) filled h))
 
 -- a column with its low alone
-abbrev lowered : MpsCol → Limit → MpsCol
-lowered col low = record col { low = low; high = Unset }
+abbrev with_low : MpsCol → Limit → MpsCol
+with_low col low = record col { low = low; high = Unset }
 
 weaker : (m : MpsModel) (lines more : List ℕ) (done : List MpsCol) (col current : MpsCol) (todo : List MpsCol) (d : Draft) → (is_nil more ≡ false → is_nil lines ≡ false) → InBounds m lines done col current todo d
     → InBounds m more done col current todo d
 weaker m lines more done col current todo d filled h = record {
   late = h.late;
-  opened = λ some. h.opened (filled some);
+  in_section = λ some. h.in_section (filled some);
   frame = h.frame;
   split = h.split;
   rows = h.rows;
   cols = h.cols;
   same_constant = h.same_constant;
-  used = h.used;
+  uses_set = h.uses_set;
 }
 
 low_back : (m : MpsModel) → IsMpsModel m → (more : List ℕ) (done : List MpsCol) (col : MpsCol) (todo : List MpsCol) (d : Draft) (rest : List ℕ) (r : Reading) → IsMpsCol (length m.rows) col
-    → (low : Limit) → IsLow low → InBounds m (low_line col.name low ++ more) done col (unbounded col) todo d
-    → ((e : Draft) → InBounds m more done col (lowered col low) todo e → Gives e rest r) → Gives d (low_line col.name low ++ rest) r
+    → (low : Limit) → IsLow low → InBounds m (low_line col.name low ++ more) done col (without_bounds col) todo d
+    → ((e : Draft) → InBounds m more done col (with_low col low) todo e → Gives e rest r) → Gives d (low_line col.name low ++ rest) r
 low_back m valid more done col todo d rest r is Unset fit h next = next d h
 low_back m valid more done col todo d rest r is Free fit h next =
-    plain_step m valid (low_line col.name Free ++ more) more done col (unbounded col) todo d NoLower (codes "MI") rest r refl refl refl is refl h next
+    plain_step m valid (low_line col.name Free ++ more) more done col (without_bounds col) todo d NoLower (codes "MI") rest r refl refl refl is refl h next
 low_back m valid more done col todo d rest r is (At value) fit h next =
     let low : low_limit value ≡ At value = ap (λ b. if b then Free else At value) fit.1 in
-    valued_step m valid (low_line col.name (At value) ++ more) more done col (unbounded col) todo d Lower (codes "LO") value rest r refl refl refl is fit.0 refl h
-    (λ e kept. next e (subst (λ (l : Limit). InBounds m more done col (lowered col l) todo e) low kept))
+    valued_step m valid (low_line col.name (At value) ++ more) more done col (without_bounds col) todo d Lower (codes "LO") value rest r refl refl refl is fit.0 refl h
+    (λ e kept. next e (subst (λ (l : Limit). InBounds m more done col (with_low col l) todo e) low kept))
 
 high_back : (m : MpsModel) → IsMpsModel m → (more : List ℕ) (done : List MpsCol) (col : MpsCol) (todo : List MpsCol) (d : Draft) (rest : List ℕ) (r : Reading) → IsMpsCol (length m.rows) col
-    → (high : Limit) → IsHigh high → InBounds m (high_line col.name high ++ more) done col (lowered col col.low) todo d
+    → (high : Limit) → IsHigh high → InBounds m (high_line col.name high ++ more) done col (with_low col col.low) todo d
     → ((e : Draft) → InBounds m more done col (record col { high = high }) todo e → Gives e rest r) → Gives d (high_line col.name high ++ rest) r
 high_back m valid more done col todo d rest r is Unset fit h next = next d h
 high_back m valid more done col todo d rest r is Free fit h next =
-    plain_step m valid (high_line col.name Free ++ more) more done col (lowered col col.low) todo d NoUpper (codes "PL") rest r refl refl refl is refl h next
+    plain_step m valid (high_line col.name Free ++ more) more done col (with_low col col.low) todo d NoUpper (codes "PL") rest r refl refl refl is refl h next
 high_back m valid more done col todo d rest r is (At value) fit h next =
     let high : high_limit value ≡ At value = ap (λ b. if b then Free else At value) fit.1 in
-    valued_step m valid (high_line col.name (At value) ++ more) more done col (lowered col col.low) todo d Upper (codes "UP") value rest r refl refl refl is fit.0 refl h
+    valued_step m valid (high_line col.name (At value) ++ more) more done col (with_low col col.low) todo d Upper (codes "UP") value rest r refl refl refl is fit.0 refl h
     (λ e kept. next e (subst (λ (l : Limit). InBounds m more done col (record col { high = l }) todo e) high kept))
 
 -- the bounds of the columns to come, of which there may be none
 pub record InColumnBounds (m : MpsModel) (lines : List ℕ) (done todo : List MpsCol) (d : Draft) : Type 0 where
   pub late : IsLate d.section
-  pub opened : is_nil lines ≡ false → d.section ≡ Some Bounds
+  pub in_section : is_nil lines ≡ false → d.section ≡ Some Bounds
   pub frame : IsFrame m d.name d.maximise d.row_names d.objective d.column_names
   pub split : done ++ todo ≡ m.cols
   pub rows : d.rows ≡ m.rows
-  pub cols : d.cols ≡ done ++ map unbounded todo
+  pub cols : d.cols ≡ done ++ map without_bounds todo
   pub same_constant : d.constant ≡ m.constant
-  pub used : is_used d.bounds.set (codes "BND") ≡ true
+  pub uses_set : is_used d.bounds.set (codes "BND") ≡ true
 
 column_done : (m : MpsModel) (lines : List ℕ) (done : List MpsCol) (col : MpsCol) (todo : List MpsCol) (d : Draft) → InBounds m lines done col col todo d → InColumnBounds m lines (done ++ col ∷ []) todo d
 column_done m lines done col todo d h = record {
   late = h.late;
-  opened = h.opened;
+  in_section = h.in_section;
   frame = h.frame;
   split = append_assoc done (col ∷ []) todo ∙ h.split;
   rows = h.rows;
-  cols = h.cols ∙ sym (append_assoc done (col ∷ []) (map unbounded todo));
+  cols = h.cols ∙ sym (append_assoc done (col ∷ []) (map without_bounds todo));
   same_constant = h.same_constant;
-  used = h.used;
+  uses_set = h.uses_set;
 }
 
-column_next : (m : MpsModel) (lines : List ℕ) (done : List MpsCol) (col : MpsCol) (todo : List MpsCol) (d : Draft) → InColumnBounds m lines done (col ∷ todo) d → InBounds m lines done col (unbounded col) todo d
+column_next : (m : MpsModel) (lines : List ℕ) (done : List MpsCol) (col : MpsCol) (todo : List MpsCol) (d : Draft) → InColumnBounds m lines done (col ∷ todo) d → InBounds m lines done col (without_bounds col) todo d
 column_next m lines done col todo d h = record {
   late = h.late;
-  opened = h.opened;
+  in_section = h.in_section;
   frame = h.frame;
   split = h.split;
   rows = h.rows;
   cols = h.cols;
   same_constant = h.same_constant;
-  used = h.used;
+  uses_set = h.uses_set;
 }
 
 bounds_back : (m : MpsModel) → IsMpsModel m → (rest : List ℕ) (r : Reading) → (todo done : List MpsCol) → All (IsMpsCol (length m.rows)) todo
@@ -224,21 +224,21 @@ bounds_back m valid rest r (col ∷ todo) done all next d h =
     let lines : low ++ high ++ more ≡ low ++ (high ++ more) = append_assoc low high more in
     subst (λ (t : List ℕ). Gives d t r) (sym text)
     (low_back m valid (high ++ more) done col todo d (high ++ (more ++ rest)) r is col.low is.low
-    (subst (λ (t : List ℕ). InBounds m t done col (unbounded col) todo d) lines (column_next m (low ++ high ++ more) done col todo d h))
+    (subst (λ (t : List ℕ). InBounds m t done col (without_bounds col) todo d) lines (column_next m (low ++ high ++ more) done col todo d h))
     (λ e first. high_back m valid more done col todo e (more ++ rest) r is col.high is.high first
     (λ f both. bounds_back m valid rest r todo (done ++ col ∷ []) (All-tail (IsMpsCol (length m.rows)) col todo all) next f (column_done m more done col todo f both))))
 
 ranges_ended : (m : MpsModel) (section : Option Section) (bounds : SetUse) (d : Draft) → InRanges m [] m.rows [] d → IsLate section → is_used bounds.set (codes "BND") ≡ true
     → (is_nil (bound_lines m.cols) ≡ false → section ≡ Some Bounds) → InColumnBounds m (bound_lines m.cols) [] m.cols (record d { section = section; bounds = bounds })
-ranges_ended m section bounds d h late used opened = record {
+ranges_ended m section bounds d h late used in_section = record {
   late = late;
-  opened = opened;
+  in_section = in_section;
   frame = h.frame;
   split = refl;
   rows = h.rows ∙ append-nil m.rows;
   cols = h.cols;
   same_constant = h.same_constant;
-  used = used;
+  uses_set = used;
 }
 
 -- the section of bounds, after the ranges
@@ -247,12 +247,12 @@ pub bounds_section_back : (m : MpsModel) → IsMpsModel m → (rest : List ℕ) 
 bounds_section_back m valid rest r next d h =
     let unused : is_used d.bounds.set (codes "BND") ≡ true = ap (λ (u : SetUse). is_used u.set (codes "BND")) h.no_bounds in
     let unbegun : d.bounds.has_begun ≡ false = ap (λ (u : SetUse). u.has_begun) h.no_bounds in
-    let ranked = h.late.ranked in
+    let ranked = h.late.high_rank in
     let plain = h.late.plain in
     let allowed : draft_kind d (Head Bounds []) ≡ None = rw (ranked, unbegun, plain) refl in
     section_back d Bounds (codes "BOUNDS") (bound_lines m.cols) rest r refl refl allowed refl
     (λ none. bounds_back m valid rest r m.cols [] valid.cols next d (ranges_ended m d.section d.bounds d h h.late unused (λ some. absurd (false≢true (sym some ∙ none)))))
-    (bounds_back m valid rest r m.cols [] valid.cols next (after_head d Bounds []) (ranges_ended m (Some Bounds) (with_head d.bounds) d h (record { ranked = refl; plain = refl }) unused (λ some. refl)))
+    (bounds_back m valid rest r m.cols [] valid.cols next (after_head d Bounds []) (ranges_ended m (Some Bounds) (with_head d.bounds) d h (record { high_rank = refl; plain = refl }) unused (λ some. refl)))
 
 -- The end.
 
@@ -263,7 +263,7 @@ model_by m name maximise objective constant rows cols a b c d e f = rw (a, b, c,
 
 pub end_back : (m : MpsModel) (d : Draft) → IsWhole m d → Gives d (codes "ENDATA\n") (Read m)
 end_back m d h =
-    let ranked = h.late.ranked in
+    let ranked = h.late.high_rank in
     let plain = h.late.plain in
     let allowed : draft_kind d (Head Endata []) ≡ None = rw (ranked, plain) refl in
     let same : draft_model d ≡ m =

@@ -6,7 +6,7 @@ use Rattle.std.proofs.lemmas.List.Folds.{list_any-append}
 use Rattle.ip_core.specs.Decimals.{Number, IsDecimal}
 use Rattle.ip_core.specs.Prints.{number_text}
 use Rattle.ip_core.proofs.DecimalDigits.{and_true}
-use Rattle.mps_read.specs.Names.{is_among, place_among, extended, with_name}
+use Rattle.mps_read.specs.Names.{is_among, place_among, with_item, with_name}
 use Rattle.mps_model.specs.Numbers.{zero_decimal, is_zero}
 use Rattle.mps_read.specs.Numerals.{decimal_of}
 use Rattle.mps_lines.specs.Lines.{words_of}
@@ -32,7 +32,7 @@ use Rattle.mps_read.specs.declared.draft.Draft.{Draft}
 use Rattle.mps_read.proofs.PrintBytes.{is_word, field_word, number_word, three_words}
 use Rattle.mps_read.proofs.PrintNames.{differ, fresh_at, tail_distinct, front_apart, among_between, place_absent, place_first, with_new, with_known}
 use Rattle.mps_read.proofs.PrintLines.{Gives, line_step, data_step, not_long, numeral_is, value_is, entry_allowed}
-use Rattle.mps_read.proofs.PrintPhases.{column_names, unbounded, place_of, IsHeader, HasNoValues, AreRead, InRows, InColumns}
+use Rattle.mps_read.proofs.PrintPhases.{column_names, without_bounds, place_of, IsHeaderOf, HasNoValues, AreRead, InRows, InColumns}
 use Rattle.mps_read.proofs.PrintPlaces.{IsRowOf, objective_row, kept_row, zero_is}
 
 -- the columns of a printed text, read back
@@ -41,14 +41,14 @@ use Rattle.mps_read.proofs.PrintPlaces.{IsRowOf, objective_row, kept_row, zero_i
 -- `names` and `cols` are the columns before it
 record InColumn (m : MpsModel) (col : MpsCol) (is_begun : Bool) (current : MpsCol) (names : List (List ℕ)) (cols : List MpsCol) (entries : List MpsEntry) (d : Draft) : Type 0 where
   section : d.section ≡ Some Columns
-  header : IsHeader m d.name d.maximise
+  header : IsHeaderOf m d.name d.maximise
   rows : AreRead m d.row_names d.row_states d.objective d.rows
   values : HasNoValues d.constant d.rhs d.ranges d.bounds
   among : is_among col.name d.column_names ≡ is_begun
   place : place_among col.name d.column_names ≡ length names
   whole : (is_among col.name d.column_names && not (place_among col.name d.column_names + 1 == length d.column_names)) ≡ false
   known : with_name col.name d.column_names ≡ names ++ col.name ∷ []
-  so_far : extended (is_among col.name d.column_names) (fresh_column d.is_integer col.name) d.cols ≡ cols ++ current ∷ []
+  so_far : with_item (is_among col.name d.column_names) (fresh_column d.is_integer col.name) d.cols ≡ cols ++ current ∷ []
   count : length cols ≡ length names
   new : is_among col.name names ≡ false
   turn : d.is_integer ≡ col.integer
@@ -102,7 +102,7 @@ pair_kept m col is_begun current next names cols entries rest d i p v h marked c
       whole = ap (λ ns. is_among col.name ns && not (place_among col.name ns + 1 == length ns)) h.known ∙ whole_at names col.name h.new;
       known = with_known col.name (with_name col.name d.column_names) among ∙ h.known;
       so_far =
-          ap (λ b. extended b (fresh_column d.is_integer col.name) (with_coefficient p v (length names) (extended (is_among col.name d.column_names) (fresh_column d.is_integer col.name) d.cols))) among
+          ap (λ b. with_item b (fresh_column d.is_integer col.name) (with_coefficient p v (length names) (with_item (is_among col.name d.column_names) (fresh_column d.is_integer col.name) d.cols))) among
           ∙ ap (with_coefficient p v (length names)) h.so_far
           ∙ coefficient;
       count = h.count;
@@ -125,13 +125,13 @@ pair_step m col is_begun current names cols entries d x i p v rest r valid h is 
     ∙ ap (λ b. if b then marker_form text else Entries name pair None) (differ x marker_word unmarked)
     in
     let free_here : has_mark (place_among x d.row_names) (place_among name d.column_names) d.marks ≡ false =
-    ap (λ k. has_mark k (place_among name d.column_names) d.marks) is.numbered ∙ ap (λ k. has_mark i k d.marks) h.place ∙ free
+    ap (λ k. has_mark k (place_among name d.column_names) d.marks) is.same_number ∙ ap (λ k. has_mark i k d.marks) h.place ∙ free
     in
-    let place : place_of_pair d.row_names d.row_states pair ≡ p = ap (λ k. (state_at d.row_states k).place) is.numbered ∙ is.placed in
+    let place : place_of_pair d.row_names d.row_states pair ≡ p = ap (λ k. (state_at d.row_states k).place) is.same_number ∙ is.same_place in
     let e : Draft = after_entry i p (length names) v (after_column d name) in
     let same : after d (Entries name pair None) ≡ e =
     ap (λ k. after_entry_pair d k pair (after_column d name)) h.place
-    ∙ ap (λ k. after_entry k (place_of_pair d.row_names d.row_states pair) (length names) (decimal_of text) (after_column d name)) is.numbered
+    ∙ ap (λ k. after_entry k (place_of_pair d.row_names d.row_states pair) (length names) (decimal_of text) (after_column d name)) is.same_number
     ∙ ap (λ q. after_entry i q (length names) (decimal_of text) (after_column d name)) place
     ∙ ap (λ n. after_entry i p (length names) n (after_column d name)) (value_is v decimal)
     in
@@ -142,8 +142,8 @@ pair_step m col is_begun current names cols entries d x i p v rest r valid h is 
 -- The cost of a column.
 
 -- a column before its entries, with its cost
-abbrev costed : MpsCol → Number → MpsCol
-costed col cost = record { name = col.name; integer = col.integer; cost = cost; entries = []; low = Unset; high = Unset }
+abbrev with_cost : MpsCol → Number → MpsCol
+with_cost col cost = record { name = col.name; integer = col.integer; cost = cost; entries = []; low = Unset; high = Unset }
 
 -- a change of the last column alone
 last_set : (cols : List MpsCol) (current : MpsCol) (n : ℕ) (f : MpsCol → MpsCol) → length cols ≡ n
@@ -152,30 +152,30 @@ last_set cols current n f long =
     ap (λ c. slice_set (cols ++ current ∷ []) n (f c)) (get_or_at cols current [] (fresh_column false []) n long) ∙ set_at cols current [] (f current) n long
 
 cost_back : (m : MpsModel) → IsMpsModel m → (col : MpsCol) (names : List (List ℕ)) (cols : List MpsCol) (d : Draft) (rest : List ℕ) (r : Reading) → IsMpsCol (length m.rows) col
-    → InColumn m col false (costed col zero_decimal) names cols col.entries d → ((row : ℕ) → has_mark row (length names) d.marks ≡ false)
-    → ((is_begun : Bool) (e : Draft) → (length col.entries ≡ 0 → is_begun ≡ true) → InColumn m col is_begun (costed col col.cost) names cols col.entries e → Gives e rest r)
+    → InColumn m col false (with_cost col zero_decimal) names cols col.entries d → ((row : ℕ) → has_mark row (length names) d.marks ≡ false)
+    → ((is_begun : Bool) (e : Draft) → (length col.entries ≡ 0 → is_begun ≡ true) → InColumn m col is_begun (with_cost col col.cost) names cols col.entries e → Gives e rest r)
     → (b : Bool) → omits_cost col ≡ b → Gives d ((if b then [] else pair_line col.name m.objective col.cost) ++ rest) r
 cost_back m valid col names cols d rest r is h free next false omitted =
     let row : IsRowOf d.row_names d.row_states m.objective 0 Objective = objective_row m d.row_names d.row_states valid h.rows.all_names h.rows.places in
     let e : Draft = after_entry 0 Objective (length names) col.cost (after_column d col.name) in
-    let kept : InColumn m col true (costed col col.cost) names cols col.entries e =
-    pair_kept m col false (costed col zero_decimal) (costed col col.cost) names cols col.entries col.entries d 0 Objective col.cost h refl
-    (last_set cols (costed col zero_decimal) (length names) (λ c. record c { cost = col.cost }) h.count)
+    let kept : InColumn m col true (with_cost col col.cost) names cols col.entries e =
+    pair_kept m col false (with_cost col zero_decimal) (with_cost col col.cost) names cols col.entries col.entries d 0 Objective col.cost h refl
+    (last_set cols (with_cost col zero_decimal) (length names) (λ c. record c { cost = col.cost }) h.count)
     (λ k other l. mark_apart d.marks 0 (length names) (suc (slice_index_or col.entries k other).row) (h.here k other l) (λ s. omega (arith, s)))
     in
-    pair_step m col false (costed col zero_decimal) names cols col.entries d m.objective 0 Objective col.cost rest r is h row
-    (field_word m.objective valid.objective.field) valid.objective.unmarked is.cost (free 0)
+    pair_step m col false (with_cost col zero_decimal) names cols col.entries d m.objective 0 Objective col.cost rest r is h row
+    (field_word m.objective valid.objective.field) valid.objective.not_marker is.cost (free 0)
     (next true e (λ none. refl) kept)
 cost_back m valid col names cols d rest r is h free next true omitted =
     let p = and_true (is_zero col.cost) (not (length col.entries == 0)) omitted in
     let zero_cost : zero_decimal ≡ col.cost = sym (zero_is col.cost is.cost p.0) in
     next false d (λ none. absurd (false≢true (ap not (sym (eq-eqb (length col.entries) 0 none)) ∙ p.1)))
-    (subst (λ (c : Number). InColumn m col false (costed col c) names cols col.entries d) zero_cost h)
+    (subst (λ (c : Number). InColumn m col false (with_cost col c) names cols col.entries d) zero_cost h)
 
 -- The entries of a column.
 
-abbrev filled : MpsCol → List MpsEntry → MpsCol
-filled col entries = record (unbounded col) { entries = entries }
+abbrev with_entries : MpsCol → List MpsEntry → MpsCol
+with_entries col entries = record (without_bounds col) { entries = entries }
 
 entry_coefficient : (cols : List MpsCol) (current : MpsCol) (n row : ℕ) (v : Number) → length cols ≡ n → is_zero v ≡ false
     → with_coefficient (Kept row) v n (cols ++ current ∷ []) ≡ cols ++ with_entry row v current ∷ []
@@ -184,13 +184,13 @@ entry_coefficient cols current n row v long nonzero =
     ∙ last_set cols current n (with_entry row v) long
 
 entries_back : (m : MpsModel) → IsMpsModel m → (col : MpsCol) (names : List (List ℕ)) (cols : List MpsCol) (rest : List ℕ) (r : Reading) → IsMpsCol (length m.rows) col
-    → ((e : Draft) → InColumn m col true (unbounded col) names cols [] e → Gives e rest r)
+    → ((e : Draft) → InColumn m col true (without_bounds col) names cols [] e → Gives e rest r)
     → (todo done : List MpsEntry) (is_begun : Bool) (d : Draft) → done ++ todo ≡ col.entries → All (IsMpsEntry (length m.rows)) todo → AreDistinct (map (λ e. e.row) todo) 0
-    → (length todo ≡ 0 → is_begun ≡ true) → InColumn m col is_begun (filled col done) names cols todo d
+    → (length todo ≡ 0 → is_begun ≡ true) → InColumn m col is_begun (with_entries col done) names cols todo d
     → Gives d (entry_lines m.rows col.name todo ++ rest) r
 entries_back m valid col names cols rest r is next [] done is_begun d all fit once ends h =
     let all_done : done ≡ col.entries = sym (append-nil done) ∙ all in
-    next d (subst (λ (b : Bool). InColumn m col b (unbounded col) names cols [] d) (ends refl) (subst (λ (es : List MpsEntry). InColumn m col is_begun (filled col es) names cols [] d) all_done h))
+    next d (subst (λ (b : Bool). InColumn m col b (without_bounds col) names cols [] d) (ends refl) (subst (λ (es : List MpsEntry). InColumn m col is_begun (with_entries col es) names cols [] d) all_done h))
 entries_back m valid col names cols rest r is next (entry ∷ todo) done is_begun d all fit once ends h =
     let one : IsMpsEntry (length m.rows) entry = All-head (IsMpsEntry (length m.rows)) entry todo fit in
     let row : IsRowOf d.row_names d.row_states (row_name m.rows entry.row) (suc entry.row) (Kept entry.row) =
@@ -204,21 +204,21 @@ entries_back m valid col names cols rest r is next (entry ∷ todo) done is_begu
     λ k other l same. front_apart 0 entry.row (map (λ x. x.row) todo) k once (let long = length-map todo (λ (x : MpsEntry). x.row) in omega (arith, long, l))
     (get_or-map (λ (x : MpsEntry). x.row) todo k other 0 l ∙ (let s : (slice_index_or todo k other).row ≡ entry.row = omega (arith, same) in s))
     in
-    let kept : InColumn m col true (filled col (done ++ entry ∷ [])) names cols todo e =
-    pair_kept m col is_begun (filled col done) (filled col (done ++ entry ∷ [])) names cols (entry ∷ todo) todo d (suc entry.row) (Kept entry.row) entry.value h refl
-    (entry_coefficient cols (filled col done) (length names) entry.row entry.value h.count one.nonzero)
+    let kept : InColumn m col true (with_entries col (done ++ entry ∷ [])) names cols todo e =
+    pair_kept m col is_begun (with_entries col done) (with_entries col (done ++ entry ∷ [])) names cols (entry ∷ todo) todo d (suc entry.row) (Kept entry.row) entry.value h refl
+    (entry_coefficient cols (with_entries col done) (length names) entry.row entry.value h.count one.nonzero)
     (λ k other l. mark_apart d.marks (suc entry.row) (length names) (suc (slice_index_or todo k other).row) (h.here (suc k) other (omega (arith, l))) (apart k other l))
     in
     subst (λ (t : List ℕ). Gives d t r) (sym (append_assoc (pair_line col.name (row_name m.rows entry.row) entry.value) (entry_lines m.rows col.name todo) rest))
-    (pair_step m col is_begun (filled col done) names cols (entry ∷ todo) d (row_name m.rows entry.row) (suc entry.row) (Kept entry.row) entry.value (entry_lines m.rows col.name todo ++ rest) r is h row
-    (field_word (row_name m.rows entry.row) named.name.field) named.name.unmarked one.decimal (All-head (λ x. has_mark (suc x.row) (length names) d.marks ≡ false) entry todo h.here)
+    (pair_step m col is_begun (with_entries col done) names cols (entry ∷ todo) d (row_name m.rows entry.row) (suc entry.row) (Kept entry.row) entry.value (entry_lines m.rows col.name todo ++ rest) r is h row
+    (field_word (row_name m.rows entry.row) named.name.field) named.name.not_marker one.decimal (All-head (λ x. has_mark (suc x.row) (length names) d.marks ≡ false) entry todo h.here)
     (entries_back m valid col names cols rest r is next todo (done ++ entry ∷ []) true e (append_assoc done (entry ∷ []) todo ∙ all)
     (All-tail (IsMpsEntry (length m.rows)) entry todo fit) (tail_distinct 0 entry.row (map (λ x. x.row) todo) once) (λ none. refl) kept))
 
 -- One column, and all.
 
 column_begun : (m : MpsModel) → IsMpsModel m → (col : MpsCol) (todo : List MpsCol) (d : Draft) → InColumns m col.integer (col ∷ todo) d
-    → InColumn m col false (costed col zero_decimal) d.column_names d.cols col.entries d
+    → InColumn m col false (with_cost col zero_decimal) d.column_names d.cols col.entries d
 column_begun m valid col todo d h =
     let distinct : AreDistinct (d.column_names ++ column_names (col ∷ todo)) [] = subst (λ (ns : List (List ℕ)). AreDistinct ns []) (sym h.names) valid.column_names in
     let new : is_among col.name d.column_names ≡ false = fresh_at d.column_names col.name (column_names todo) distinct in
@@ -231,7 +231,7 @@ column_begun m valid col todo d h =
       place = place_absent col.name d.column_names new;
       whole = ap (λ b. b && not (place_among col.name d.column_names + 1 == length d.column_names)) new;
       known = with_new col.name d.column_names new;
-      so_far = ap (λ b. extended b (fresh_column d.is_integer col.name) d.cols) new ∙ ap (λ t. d.cols ++ fresh_column t col.name ∷ []) h.turn;
+      so_far = ap (λ b. with_item b (fresh_column d.is_integer col.name) d.cols) new ∙ ap (λ t. d.cols ++ fresh_column t col.name ∷ []) h.turn;
       count = h.count;
       new = new;
       turn = h.turn;
@@ -240,11 +240,11 @@ column_begun m valid col todo d h =
     }
 
 column_ended : (m : MpsModel) (col : MpsCol) (todo : List MpsCol) (names : List (List ℕ)) (cols : List MpsCol) (e : Draft)
-    → names ++ column_names (col ∷ todo) ≡ column_names m.cols → cols ++ map unbounded (col ∷ todo) ≡ map unbounded m.cols
-    → InColumn m col true (unbounded col) names cols [] e → InColumns m col.integer todo e
+    → names ++ column_names (col ∷ todo) ≡ column_names m.cols → cols ++ map without_bounds (col ∷ todo) ≡ map without_bounds m.cols
+    → InColumn m col true (without_bounds col) names cols [] e → InColumns m col.integer todo e
 column_ended m col todo names cols e all_names all_cols h =
     let names_are : e.column_names ≡ names ++ col.name ∷ [] = sym (with_known col.name e.column_names h.among) ∙ h.known in
-    let cols_are : e.cols ≡ cols ++ unbounded col ∷ [] = sym (ap (λ b. extended b (fresh_column e.is_integer col.name) e.cols) h.among) ∙ h.so_far in
+    let cols_are : e.cols ≡ cols ++ without_bounds col ∷ [] = sym (ap (λ b. with_item b (fresh_column e.is_integer col.name) e.cols) h.among) ∙ h.so_far in
     let long : length e.column_names ≡ length names + 1 = ap length names_are ∙ length_push names col.name in
     record {
       section = h.section;
@@ -252,8 +252,8 @@ column_ended m col todo names cols e all_names all_cols h =
       rows = h.rows;
       values = h.values;
       names = ap (λ ns. ns ++ column_names todo) names_are ∙ append_assoc names (col.name ∷ []) (column_names todo) ∙ all_names;
-      count = ap length cols_are ∙ length_push cols (unbounded col) ∙ ap (λ n. n + 1) h.count ∙ sym long;
-      cols = ap (λ cs. cs ++ map unbounded todo) cols_are ∙ append_assoc cols (unbounded col ∷ []) (map unbounded todo) ∙ all_cols;
+      count = ap length cols_are ∙ length_push cols (without_bounds col) ∙ ap (λ n. n + 1) h.count ∙ sym long;
+      cols = ap (λ cs. cs ++ map without_bounds todo) cols_are ∙ append_assoc cols (without_bounds col ∷ []) (map without_bounds todo) ∙ all_cols;
       turn = h.turn;
       marks = λ row k l. h.later row k (omega (arith, long, l));
     }
@@ -328,7 +328,7 @@ columns_section_back m valid rest r next d h =
       values = h.values;
       names = ap (λ ns. ns ++ column_names m.cols) h.columns.no_column_names;
       count = ap length h.columns.no_cols ∙ sym (ap length h.columns.no_column_names);
-      cols = ap (λ cs. cs ++ map unbounded m.cols) h.columns.no_cols;
+      cols = ap (λ cs. cs ++ map without_bounds m.cols) h.columns.no_cols;
       turn = h.columns.no_is_integer;
       marks = λ row k l. ap (has_mark row k) h.columns.no_marks;
     } in

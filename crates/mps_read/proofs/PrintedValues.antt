@@ -13,10 +13,10 @@ use Rattle.mps_read.specs.Numerals.{is_numeral, decimal_of}
 use Rattle.mps_lines.specs.Lines.{words_of, is_line_byte}
 use Rattle.mps_lines.specs.Forms.{Pair, Head, Values, form_of, words_form, is_end}
 use Rattle.mps_read.specs.Drafts.{no_set}
-use Rattle.mps_read.specs.Sets.{is_used, first_given}
+use Rattle.mps_read.specs.Sets.{is_used, first_name}
 use Rattle.mps_read.specs.Steps.{with_set, with_head, after, after_head, after_value, after_value_pair, with_values_set}
 use Rattle.mps_model.specs.Prints.{fresh_row}
-use Rattle.mps_read.specs.DraftRows.{fresh, state_at, is_tested, with_value_mark, marked_state, with_marked, valued_row, place_of_pair}
+use Rattle.mps_read.specs.DraftRows.{fresh_state, state_at, is_tested, with_value_mark, marked_state, with_marked_state, valued_row, place_of_pair}
 use Rattle.mps_read.specs.DraftKinds.{draft_kind, has_value, values_use}
 use Rattle.mps_read.specs.Kinds.{rank_of, is_objsense}
 use Rattle.mps_read.specs.Readings.{Reading, is_maximise}
@@ -37,7 +37,7 @@ use Rattle.mps_read.specs.declared.draft.Draft.{Draft}
 use Rattle.mps_read.proofs.PrintBytes.{is_word, field_word, number_word, three_words}
 use Rattle.mps_read.proofs.PrintNames.{same_bytes}
 use Rattle.mps_read.proofs.PrintLines.{Gives, line_step, data_step, numeral_is, value_is, side_allowed, range_allowed}
-use Rattle.mps_read.proofs.PrintPhases.{names_of, column_names, bare, unranged, unbounded, place_of, places_from, InColumns}
+use Rattle.mps_read.proofs.PrintPhases.{names_of, column_names, bare_row, without_range, without_bounds, place_of, places_from, InColumns}
 use Rattle.mps_read.proofs.PrintPlaces.{IsRowOf, objective_row, kept_row, read_map, valueless_at, zero_is}
 
 -- the right-hand sides and the ranges of a printed text, read back
@@ -54,7 +54,7 @@ more_filled (x ∷ xs) b h = refl
 
 -- the columns were read, and so may be some of the sections that follow
 pub record IsLate (section : Option Section) : Type 0 where
-  pub ranked : nat_le 4 (rank_of section) ≡ true
+  pub high_rank : nat_le 4 (rank_of section) ≡ true
   pub plain : is_objsense section ≡ false
 
 pub section_back : (d : Draft) (section : Section) (head lines rest : List ℕ) (r : Reading) → list_all is_line_byte head ≡ true → form_of d.section d.has_sense_line head ≡ Head section []
@@ -98,40 +98,40 @@ value_step kind d set x i p v rest r section used set_word short is word decimal
     let form : words_form d.section d.has_sense_line true (words_of (set ∷ x ∷ text ∷ [])) ≡ Values kind set pair None =
     ap (λ s. words_form s d.has_sense_line true (words_of (set ∷ x ∷ text ∷ []))) section ∙ value_form kind d.has_sense_line set x text
     in
-    let free_here : has_value kind (state_at d.row_states (place_among x d.row_names)) ≡ false = ap (λ k. has_value kind (state_at d.row_states k)) is.numbered ∙ free in
-    let place : place_of_pair d.row_names d.row_states pair ≡ p = ap (λ k. (state_at d.row_states k).place) is.numbered ∙ is.placed in
+    let free_here : has_value kind (state_at d.row_states (place_among x d.row_names)) ≡ false = ap (λ k. has_value kind (state_at d.row_states k)) is.same_number ∙ free in
+    let place : place_of_pair d.row_names d.row_states pair ≡ p = ap (λ k. (state_at d.row_states k).place) is.same_number ∙ is.same_place in
     let e : Draft = with_values_set kind set (after_value kind i p v d) in
     let same : after d (Values kind set pair None) ≡ e =
     ap (λ b. if b then with_values_set kind set (after_value_pair d kind pair d) else d) used
-    ∙ ap (λ k. with_values_set kind set (after_value kind k (place_of_pair d.row_names d.row_states pair) (decimal_of text) d)) is.numbered
+    ∙ ap (λ k. with_values_set kind set (after_value kind k (place_of_pair d.row_names d.row_states pair) (decimal_of text) d)) is.same_number
     ∙ ap (λ q. with_values_set kind set (after_value kind i q (decimal_of text) d)) place
     ∙ ap (λ n. with_values_set kind set (after_value kind i p n d)) (value_is v decimal)
     in
     data_step d e set (x ∷ text ∷ []) rest (Values kind set pair None) r (three_words set x text set_word word (number_word v decimal)) form
     (value_allowed kind d set pair used (numeral_is v decimal) is.known free_here short) refl same next
 
-given_used : (set : List ℕ) (first : Option (List ℕ)) → is_used first set ≡ true → is_used (first_given first set) set ≡ true
+given_used : (set : List ℕ) (first : Option (List ℕ)) → is_used first set ≡ true → is_used (first_name first set) set ≡ true
 given_used set None h = same_bytes set
 given_used set (Some first) h = h
 
 -- the set of a section goes on being used
 pub still_used : (set : List ℕ) (u : SetUse) → is_used u.set set ≡ true → is_used (with_set set u).set set ≡ true
-still_used set u h = ap (λ t. is_used ((if t then (record u { set = first_given u.set set }) else u).set) set) h ∙ given_used set u.set h
+still_used set u h = ap (λ t. is_used ((if t then (record u { set = first_name u.set set }) else u).set) set) h ∙ given_used set u.set h
 
 -- Marks of values.
 
-map_marked : {A : Type 0} (f : RowState → A) (kind : ValueKind) (k : ℕ) (states : List RowState) → ((s : RowState) → f (marked_state kind s) ≡ f s) → map f (with_marked kind k states) ≡ map f states
+map_marked : {A : Type 0} (f : RowState → A) (kind : ValueKind) (k : ℕ) (states : List RowState) → ((s : RowState) → f (marked_state kind s) ≡ f s) → map f (with_marked_state kind k states) ≡ map f states
 map_marked f kind k states same =
     map-set f states k (marked_state kind (state_at states k))
-    ∙ ap (slice_set (map f states) k) (same (state_at states k) ∙ sym (read_map f states k (fresh Dropped)))
-    ∙ set-get_or (map f states) k (f (fresh Dropped))
+    ∙ ap (slice_set (map f states) k) (same (state_at states k) ∙ sym (read_map f states k (fresh_state Dropped)))
+    ∙ set-get_or (map f states) k (f (fresh_state Dropped))
 
 place_by : (kind : ValueKind) (s : RowState) (b : Bool) → (if b then with_value_mark kind s else s).place ≡ s.place
 place_by kind s false = refl
 place_by Side s true = refl
 place_by Range s true = refl
 
-places_marked : (kind : ValueKind) (k : ℕ) (states : List RowState) → map place_of (with_marked kind k states) ≡ map place_of states
+places_marked : (kind : ValueKind) (k : ℕ) (states : List RowState) → map place_of (with_marked_state kind k states) ≡ map place_of states
 places_marked kind k states = map_marked place_of kind k states (λ s. place_by kind s (is_tested s.place))
 
 abbrev range_mark : RowState → Bool
@@ -141,22 +141,22 @@ range_by : (s : RowState) (b : Bool) → (if b then with_value_mark Side s else 
 range_by s false = refl
 range_by s true = refl
 
-ranges_marked : (k i : ℕ) (states : List RowState) → (state_at (with_marked Side k states) i).has_range ≡ (state_at states i).has_range
+ranges_marked : (k i : ℕ) (states : List RowState) → (state_at (with_marked_state Side k states) i).has_range ≡ (state_at states i).has_range
 ranges_marked k i states =
-    sym (read_map range_mark (with_marked Side k states) i (fresh Dropped))
+    sym (read_map range_mark (with_marked_state Side k states) i (fresh_state Dropped))
     ∙ ap (λ l. slice_index_or l i false) (map_marked range_mark Side k states (λ s. range_by s (is_tested s.place)))
-    ∙ read_map range_mark states i (fresh Dropped)
+    ∙ read_map range_mark states i (fresh_state Dropped)
 
-other_state : (kind : ValueKind) (k i : ℕ) (states : List RowState) → k < i → state_at (with_marked kind k states) i ≡ state_at states i
-other_state kind k i states l = get_or-set_other states k i (marked_state kind (state_at states k)) (fresh Dropped) (λ e. omega (arith, l, e))
+other_state : (kind : ValueKind) (k i : ℕ) (states : List RowState) → k < i → state_at (with_marked_state kind k states) i ≡ state_at states i
+other_state kind k i states l = get_or-set_other states k i (marked_state kind (state_at states k)) (fresh_state Dropped) (λ e. omega (arith, l, e))
 
 -- a change between two lists
 middle_set : {A : Type 0} (front : List A) (x : A) (back : List A) (n : ℕ) (d : A) (f : A → A) → length front ≡ n
     → slice_set (front ++ x ∷ back) n (f (slice_index_or (front ++ x ∷ back) n d)) ≡ front ++ f x ∷ back
 middle_set front x back n d f long = ap (λ y. slice_set (front ++ x ∷ back) n (f y)) (get_or_at front x back d n long) ∙ set_at front x back (f x) n long
 
-moved : {A B : Type 0} (f g : A → B) (done : List A) (x : A) (todo : List A) (y : B) → y ≡ f x → map f done ++ y ∷ map g todo ≡ map f (done ++ x ∷ []) ++ map g todo
-moved f g done x todo y is =
+map-move : {A B : Type 0} (f g : A → B) (done : List A) (x : A) (todo : List A) (y : B) → y ≡ f x → map f done ++ y ∷ map g todo ≡ map f (done ++ x ∷ []) ++ map g todo
+map-move f g done x todo y is =
     ap (λ z. map f done ++ z ∷ map g todo) is
     ∙ sym (append_assoc (map f done) (f x ∷ []) (map g todo))
     ∙ ap (λ l. l ++ map g todo) (sym (map-append f done (x ∷ [])))
@@ -174,31 +174,31 @@ pub record IsFrame (m : MpsModel) (name : List ℕ) (maximise : Option Bool) (ro
 -- the right-hand sides of some rows are still to come; the constant is as yet this, and rows below a number may have marks
 pub record InSides (m : MpsModel) (lines : List ℕ) (done todo : List MpsRow) (from : ℕ) (constant : Number) (d : Draft) : Type 0 where
   late : IsLate d.section
-  opened : is_nil lines ≡ false → d.section ≡ Some Rhs
+  in_section : is_nil lines ≡ false → d.section ≡ Some Rhs
   frame : IsFrame m d.name d.maximise d.row_names d.objective d.column_names
   split : done ++ todo ≡ m.rows
   places : map place_of d.row_states ≡ Objective ∷ places_from 0 m.rows
   sides : (i : ℕ) → from ≤ i → (state_at d.row_states i).has_side ≡ false
   ranges : (i : ℕ) → (state_at d.row_states i).has_range ≡ false
-  rows : d.rows ≡ map unranged done ++ map bare todo
-  cols : d.cols ≡ map unbounded m.cols
+  rows : d.rows ≡ map without_range done ++ map bare_row todo
+  cols : d.cols ≡ map without_bounds m.cols
   same_constant : d.constant ≡ constant
-  used : is_used d.rhs.set (codes "RHS") ≡ true
+  uses_set : is_used d.rhs.set (codes "RHS") ≡ true
   no_ranges : d.ranges ≡ no_set
   no_bounds : d.bounds ≡ no_set
 
 -- the ranges of some rows are still to come
 pub record InRanges (m : MpsModel) (lines : List ℕ) (done todo : List MpsRow) (d : Draft) : Type 0 where
   pub late : IsLate d.section
-  pub opened : is_nil lines ≡ false → d.section ≡ Some Ranges
+  pub in_section : is_nil lines ≡ false → d.section ≡ Some Ranges
   pub frame : IsFrame m d.name d.maximise d.row_names d.objective d.column_names
   pub split : done ++ todo ≡ m.rows
   pub places : map place_of d.row_states ≡ Objective ∷ places_from 0 m.rows
   pub ranges : (i : ℕ) → suc (length done) ≤ i → (state_at d.row_states i).has_range ≡ false
-  pub rows : d.rows ≡ done ++ map unranged todo
-  pub cols : d.cols ≡ map unbounded m.cols
+  pub rows : d.rows ≡ done ++ map without_range todo
+  pub cols : d.cols ≡ map without_bounds m.cols
   pub same_constant : d.constant ≡ m.constant
-  pub used : is_used d.ranges.set (codes "RNG") ≡ true
+  pub uses_set : is_used d.ranges.set (codes "RNG") ≡ true
   pub no_bounds : d.bounds ≡ no_set
 
 -- the row between those done and those to come
@@ -224,7 +224,7 @@ side_kept m row todo done d lines filled h =
     let long : length (done ++ row ∷ []) ≡ length done + 1 = length_push done row in
     record {
       late = h.late;
-      opened = λ more. h.opened filled;
+      in_section = λ more. h.in_section filled;
       frame = h.frame;
       split = append_assoc done (row ∷ []) todo ∙ h.split;
       places = places_marked Side (suc (length done)) d.row_states ∙ h.places;
@@ -232,11 +232,11 @@ side_kept m row todo done d lines filled h =
       ranges = λ i. ranges_marked (suc (length done)) i d.row_states ∙ h.ranges i;
       rows =
           ap (λ rows. slice_set rows (length done) (valued_row Side row.rhs (slice_index_or rows (length done) (fresh_row Less [])))) h.rows
-          ∙ middle_set (map unranged done) (bare row) (map bare todo) (length done) (fresh_row Less []) (valued_row Side row.rhs) (length-map done unranged)
-          ∙ moved unranged bare done row todo (unranged row) refl;
+          ∙ middle_set (map without_range done) (bare_row row) (map bare_row todo) (length done) (fresh_row Less []) (valued_row Side row.rhs) (length-map done without_range)
+          ∙ map-move without_range bare_row done row todo (without_range row) refl;
       cols = h.cols;
       same_constant = h.same_constant;
-      used = still_used (codes "RHS") d.rhs h.used;
+      uses_set = still_used (codes "RHS") d.rhs h.uses_set;
       no_ranges = h.no_ranges;
       no_bounds = h.no_bounds;
     }
@@ -247,16 +247,16 @@ side_skipped m row todo done d lines filled zero_side h =
     let long : length (done ++ row ∷ []) ≡ length done + 1 = length_push done row in
     record {
       late = h.late;
-      opened = λ more. h.opened (filled more);
+      in_section = λ more. h.in_section (filled more);
       frame = h.frame;
       split = append_assoc done (row ∷ []) todo ∙ h.split;
       places = h.places;
       sides = λ i l. h.sides i (omega (arith, long, l));
       ranges = h.ranges;
-      rows = h.rows ∙ moved unranged bare done row todo (bare row) (ap (λ v. record { name = row.name; kind = row.kind; rhs = v; range = None }) (sym zero_side));
+      rows = h.rows ∙ map-move without_range bare_row done row todo (bare_row row) (ap (λ v. record { name = row.name; kind = row.kind; rhs = v; range = None }) (sym zero_side));
       cols = h.cols;
       same_constant = h.same_constant;
-      used = h.used;
+      uses_set = h.uses_set;
       no_ranges = h.no_ranges;
       no_bounds = h.no_bounds;
     }
@@ -270,7 +270,7 @@ side_line_back m valid rest r row todo done is next d h true zero_side =
     (side_skipped m row todo done d (side_lines (row ∷ todo)) (more_filled (nonzero_line (codes "RHS") row.name row.rhs) (side_lines todo)) (zero_is row.rhs is.side zero_side) h)
 side_line_back m valid rest r row todo done is next d h false nonzero =
     let filled : is_nil (side_lines (row ∷ todo)) ≡ false = ap (λ b. is_nil ((if b then [] else pair_line (codes "RHS") row.name row.rhs) ++ side_lines todo)) nonzero in
-    value_step Side d (codes "RHS") row.name (suc (length done)) (Kept (length done)) row.rhs rest r (h.opened filled) h.used refl refl
+    value_step Side d (codes "RHS") row.name (suc (length done)) (Kept (length done)) row.rhs rest r (h.in_section filled) h.uses_set refl refl
     (between_is m valid done row todo d.row_names d.row_states h.split h.frame.same_rows h.places) (field_word row.name is.name.field) is.side (h.sides (suc (length done)) (omega arith))
     (next (with_values_set Side (codes "RHS") (after_value Side (suc (length done)) (Kept (length done)) row.rhs d)) (side_kept m row todo done d (side_lines (row ∷ todo)) filled h))
 
@@ -308,7 +308,7 @@ constant_kept : (m : MpsModel) (d : Draft) (lines : List ℕ) → is_nil lines �
     → InSides m (side_lines m.rows) [] m.rows 1 m.constant (with_values_set Side (codes "RHS") (after_value Side 0 Objective (negation m.constant) d))
 constant_kept m d lines filled h = record {
   late = h.late;
-  opened = λ more. h.opened filled;
+  in_section = λ more. h.in_section filled;
   frame = h.frame;
   split = h.split;
   places = places_marked Side 0 d.row_states ∙ h.places;
@@ -317,7 +317,7 @@ constant_kept m d lines filled h = record {
   rows = h.rows;
   cols = h.cols;
   same_constant = turned_back m.constant;
-  used = still_used (codes "RHS") d.rhs h.used;
+  uses_set = still_used (codes "RHS") d.rhs h.uses_set;
   no_ranges = h.no_ranges;
   no_bounds = h.no_bounds;
 }
@@ -326,7 +326,7 @@ constant_skipped : (m : MpsModel) (d : Draft) (lines : List ℕ) → (is_nil (si
     → InSides m lines [] m.rows 0 zero_decimal d → InSides m (side_lines m.rows) [] m.rows 1 m.constant d
 constant_skipped m d lines filled same h = record {
   late = h.late;
-  opened = λ more. h.opened (filled more);
+  in_section = λ more. h.in_section (filled more);
   frame = h.frame;
   split = h.split;
   places = h.places;
@@ -335,7 +335,7 @@ constant_skipped m d lines filled same h = record {
   rows = h.rows;
   cols = h.cols;
   same_constant = h.same_constant ∙ same;
-  used = h.used;
+  uses_set = h.uses_set;
   no_ranges = h.no_ranges;
   no_bounds = h.no_bounds;
 }
@@ -347,7 +347,7 @@ constant_back m valid rest r next d h true none =
     next d (constant_skipped m d (sides_lines m) (more_filled (nonzero_line (codes "RHS") m.objective (negation m.constant)) (side_lines m.rows)) (constant_zero m.constant valid.constant none) h)
 constant_back m valid rest r next d h false some =
     let filled : is_nil (sides_lines m) ≡ false = ap (λ b. is_nil ((if b then [] else pair_line (codes "RHS") m.objective (negation m.constant)) ++ side_lines m.rows)) some in
-    value_step Side d (codes "RHS") m.objective 0 Objective (negation m.constant) rest r (h.opened filled) h.used refl refl
+    value_step Side d (codes "RHS") m.objective 0 Objective (negation m.constant) rest r (h.in_section filled) h.uses_set refl refl
     (objective_row m d.row_names d.row_states valid h.frame.same_rows h.places) (field_word m.objective valid.objective.field) (negated_decimal m.constant valid.constant) (h.sides 0 (omega arith))
     (next (with_values_set Side (codes "RHS") (after_value Side 0 Objective (negation m.constant) d)) (constant_kept m d (sides_lines m) filled h))
 
@@ -360,9 +360,9 @@ all_sides_back m valid rest r next d h =
 -- the draft after the columns
 columns_ended : (m : MpsModel) (section : Option Section) (rhs : SetUse) (d : Draft) → InColumns m false [] d → IsLate section → is_used rhs.set (codes "RHS") ≡ true → (is_nil (sides_lines m) ≡ false → section ≡ Some Rhs)
     → InSides m (sides_lines m) [] m.rows 0 zero_decimal (record d { section = section; rhs = rhs })
-columns_ended m section rhs d h late used opened = record {
+columns_ended m section rhs d h late used in_section = record {
   late = late;
-  opened = opened;
+  in_section = in_section;
   frame = record {
     same_name = h.header.same_name;
     same_sense = h.header.same_sense;
@@ -377,7 +377,7 @@ columns_ended m section rhs d h late used opened = record {
   rows = h.rows.all_rows;
   cols = sym (append-nil d.cols) ∙ h.cols;
   same_constant = h.values.no_constant;
-  used = used;
+  uses_set = used;
   no_ranges = h.values.no_ranges;
   no_bounds = h.values.no_bounds;
 }
@@ -394,9 +394,9 @@ sides_section_back m valid rest r next d h =
     let allowed : draft_kind d (Head Rhs []) ≡ None = rw (h.section, unbegun) refl in
     section_back d Rhs (codes "RHS") (sides_lines m) rest r refl refl allowed refl
     (λ none. all_sides_back m valid rest r next d
-    (columns_ended m d.section d.rhs d h (late_at d.section (Some Columns) h.section (record { ranked = refl; plain = refl })) unused (λ some. absurd (false≢true (sym some ∙ none)))))
+    (columns_ended m d.section d.rhs d h (late_at d.section (Some Columns) h.section (record { high_rank = refl; plain = refl })) unused (λ some. absurd (false≢true (sym some ∙ none)))))
     (all_sides_back m valid rest r next (after_head d Rhs [])
-    (columns_ended m (Some Rhs) (with_head d.rhs) d h (record { ranked = refl; plain = refl }) unused (λ some. refl)))
+    (columns_ended m (Some Rhs) (with_head d.rhs) d h (record { high_rank = refl; plain = refl }) unused (λ some. refl)))
 
 -- Ranges.
 
@@ -406,19 +406,19 @@ range_kept m row todo done d lines range has filled h =
     let long : length (done ++ row ∷ []) ≡ length done + 1 = length_push done row in
     record {
       late = h.late;
-      opened = λ more. h.opened filled;
+      in_section = λ more. h.in_section filled;
       frame = h.frame;
       split = append_assoc done (row ∷ []) todo ∙ h.split;
       places = places_marked Range (suc (length done)) d.row_states ∙ h.places;
       ranges = λ i l. ap (λ (s : RowState). s.has_range) (other_state Range (suc (length done)) i d.row_states (omega (arith, long, l))) ∙ h.ranges i (omega (arith, long, l));
       rows =
           ap (λ rows. slice_set rows (length done) (valued_row Range range (slice_index_or rows (length done) (fresh_row Less [])))) h.rows
-          ∙ middle_set done (unranged row) (map unranged todo) (length done) (fresh_row Less []) (valued_row Range range) refl
-          ∙ ap (λ v. done ++ (record row { range = v }) ∷ map unranged todo) (sym has)
-          ∙ sym (append_assoc done (row ∷ []) (map unranged todo));
+          ∙ middle_set done (without_range row) (map without_range todo) (length done) (fresh_row Less []) (valued_row Range range) refl
+          ∙ ap (λ v. done ++ (record row { range = v }) ∷ map without_range todo) (sym has)
+          ∙ sym (append_assoc done (row ∷ []) (map without_range todo));
       cols = h.cols;
       same_constant = h.same_constant;
-      used = still_used (codes "RNG") d.ranges h.used;
+      uses_set = still_used (codes "RNG") d.ranges h.uses_set;
       no_bounds = h.no_bounds;
     }
 
@@ -428,18 +428,18 @@ range_skipped m row todo done d lines none filled h =
     let long : length (done ++ row ∷ []) ≡ length done + 1 = length_push done row in
     record {
       late = h.late;
-      opened = λ more. h.opened (filled more);
+      in_section = λ more. h.in_section (filled more);
       frame = h.frame;
       split = append_assoc done (row ∷ []) todo ∙ h.split;
       places = h.places;
       ranges = λ i l. h.ranges i (omega (arith, long, l));
       rows =
           h.rows
-          ∙ ap (λ v. done ++ (record row { range = v }) ∷ map unranged todo) (sym none)
-          ∙ sym (append_assoc done (row ∷ []) (map unranged todo));
+          ∙ ap (λ v. done ++ (record row { range = v }) ∷ map without_range todo) (sym none)
+          ∙ sym (append_assoc done (row ∷ []) (map without_range todo));
       cols = h.cols;
       same_constant = h.same_constant;
-      used = h.used;
+      uses_set = h.uses_set;
       no_bounds = h.no_bounds;
     }
 
@@ -451,7 +451,7 @@ range_line_back m valid rest r row todo done is next d h None none decimal =
     next d (range_skipped m row todo done d (range_lines (row ∷ todo)) none (more_filled (range_line row.name row.range) (range_lines todo)) h)
 range_line_back m valid rest r row todo done is next d h (Some range) some decimal =
     let filled : is_nil (range_lines (row ∷ todo)) ≡ false = ap (λ v. is_nil (range_line row.name v ++ range_lines todo)) some in
-    value_step Range d (codes "RNG") row.name (suc (length done)) (Kept (length done)) range rest r (h.opened filled) h.used refl refl
+    value_step Range d (codes "RNG") row.name (suc (length done)) (Kept (length done)) range rest r (h.in_section filled) h.uses_set refl refl
     (between_is m valid done row todo d.row_names d.row_states h.split h.frame.same_rows h.places) (field_word row.name is.name.field) decimal (h.ranges (suc (length done)) (omega arith))
     (next (with_values_set Range (codes "RNG") (after_value Range (suc (length done)) (Kept (length done)) range d)) (range_kept m row todo done d (range_lines (row ∷ todo)) range some filled h))
 
@@ -467,17 +467,17 @@ ranges_back m valid rest r (row ∷ todo) done all next d h =
 
 sides_ended : (m : MpsModel) (section : Option Section) (ranges : SetUse) (d : Draft) → InSides m [] m.rows [] (suc (length m.rows)) m.constant d → IsLate section → is_used ranges.set (codes "RNG") ≡ true
     → (is_nil (range_lines m.rows) ≡ false → section ≡ Some Ranges) → InRanges m (range_lines m.rows) [] m.rows (record d { section = section; ranges = ranges })
-sides_ended m section ranges d h late used opened = record {
+sides_ended m section ranges d h late used in_section = record {
   late = late;
-  opened = opened;
+  in_section = in_section;
   frame = h.frame;
   split = refl;
   places = h.places;
   ranges = λ i l. h.ranges i;
-  rows = h.rows ∙ append-nil (map unranged m.rows);
+  rows = h.rows ∙ append-nil (map without_range m.rows);
   cols = h.cols;
   same_constant = h.same_constant;
-  used = used;
+  uses_set = used;
   no_bounds = h.no_bounds;
 }
 
@@ -487,9 +487,9 @@ pub ranges_section_back : (m : MpsModel) → IsMpsModel m → (rest : List ℕ) 
 ranges_section_back m valid rest r next d h =
     let unused : is_used d.ranges.set (codes "RNG") ≡ true = ap (λ (u : SetUse). is_used u.set (codes "RNG")) h.no_ranges in
     let unbegun : d.ranges.has_begun ≡ false = ap (λ (u : SetUse). u.has_begun) h.no_ranges in
-    let ranked = h.late.ranked in
+    let ranked = h.late.high_rank in
     let plain = h.late.plain in
     let allowed : draft_kind d (Head Ranges []) ≡ None = rw (ranked, unbegun, plain) refl in
     section_back d Ranges (codes "RANGES") (range_lines m.rows) rest r refl refl allowed refl
     (λ none. ranges_back m valid rest r m.rows [] valid.rows next d (sides_ended m d.section d.ranges d h h.late unused (λ some. absurd (false≢true (sym some ∙ none)))))
-    (ranges_back m valid rest r m.rows [] valid.rows next (after_head d Ranges []) (sides_ended m (Some Ranges) (with_head d.ranges) d h (record { ranked = refl; plain = refl }) unused (λ some. refl)))
+    (ranges_back m valid rest r m.rows [] valid.rows next (after_head d Ranges []) (sides_ended m (Some Ranges) (with_head d.ranges) d h (record { high_rank = refl; plain = refl }) unused (λ some. refl)))

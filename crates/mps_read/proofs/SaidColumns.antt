@@ -6,7 +6,7 @@ use Rattle.mps_model.specs.Numbers.{zero_decimal, is_zero}
 use Rattle.mps_model.specs.declared.model.Limit.{Limit}
 use Rattle.mps_model.specs.declared.model.MpsEntry.{MpsEntry}
 use Rattle.mps_model.specs.declared.model.MpsCol.{MpsCol}
-use Rattle.mps_read.specs.Names.{is_among, place_among, extended, with_name}
+use Rattle.mps_read.specs.Names.{is_among, place_among, with_item, with_name}
 use Rattle.mps_read.specs.Numerals.{decimal_of}
 use Rattle.mps_lines.specs.Forms.{Pair}
 use Rattle.mps_read.specs.Sets.{is_named, number_or_zero}
@@ -23,7 +23,7 @@ use Rattle.mps_read.specs.declared.draft.Mark.{Mark}
 use Rattle.mps_lines.proofs.Truths.{by_case}
 use Rattle.mps_read.proofs.Marks.{has_mark-push, not_eq}
 use Rattle.mps_read.proofs.PrintNames.{same_bytes}
-use Rattle.mps_read.proofs.Lookups.{IsSingle, map_all, map_change, eq_of, turned}
+use Rattle.mps_read.proofs.Lookups.{IsSingle, map_all, map_change, eq_of, bytes_eq-turn}
 use Rattle.mps_read.proofs.SaidNames.{or_same, and_none, place_less, places_eq, named_push}
 use Rattle.mps_read.proofs.SaidRows.{place_said, tested_said, place_by_test, first_unnamed, unnamed_objective, images_push, objective_other, objective_here}
 
@@ -128,11 +128,11 @@ ints_known ints integer c columns x known =
 
 pub column_push : (o : Option (List ℕ)) (kept : List (List ℕ)) (ints : List ℕ → Bool) (integer : Bool) (ps : List ℕ → List Pair) (bs : List ℕ → List Bound) (c : List ℕ) (columns : List (List ℕ))
     → (is_among c columns ≡ false → (ps c ≡ []) × (bs c ≡ []))
-    → extended (is_among c columns) (fresh_column integer c) (map (λ x. column_of o kept (ints x) (ps x) (bs x) x) columns) ≡ map (λ x. column_of o kept (ints_with ints integer c columns x) (ps x) (bs x) x) (with_name c columns)
+    → with_item (is_among c columns) (fresh_column integer c) (map (λ x. column_of o kept (ints x) (ps x) (bs x) x) columns) ≡ map (λ x. column_of o kept (ints_with ints integer c columns x) (ps x) (bs x) x) (with_name c columns)
 column_push o kept ints integer ps bs c columns fresh =
     let old : List ℕ → MpsCol = λ x. column_of o kept (ints x) (ps x) (bs x) x in
     let new : List ℕ → MpsCol = λ x. column_of o kept (ints_with ints integer c columns x) (ps x) (bs x) x in
-    by_case (is_among c columns) (extended (is_among c columns) (fresh_column integer c) (map old columns) ≡ map new (with_name c columns))
+    by_case (is_among c columns) (with_item (is_among c columns) (fresh_column integer c) (map old columns) ≡ map new (with_name c columns))
     (λ known.
     ap (λ b. if b then map old columns else map old columns ++ fresh_column integer c ∷ []) known
     ∙ map_all old new columns (λ x. ap (λ i. column_of o kept i (ps x) (bs x) x) (ints_known ints integer c columns x known))
@@ -141,7 +141,7 @@ column_push o kept ints integer ps bs c columns fresh =
     let is : ints_with ints integer c columns c ≡ integer = rw (same_bytes c, unknown) refl in
     ap (λ b. if b then map old columns else map old columns ++ fresh_column integer c ∷ []) unknown
     ∙ images_push old new columns c (fresh_column integer c) unknown
-    (λ x h. ap (λ i. column_of o kept i (ps x) (bs x) x) (ap (λ b. if b && not (is_among x columns) then integer else ints x) (sym (turned c x false h))))
+    (λ x h. ap (λ i. column_of o kept i (ps x) (bs x) x) (ap (λ b. if b && not (is_among x columns) then integer else ints x) (sym (bytes_eq-turn c x false h))))
     (fresh_is o kept integer (ps c) (bs c) c (fresh unknown).0 (fresh unknown).1 ∙ ap (λ i. column_of o kept i (ps c) (bs c) c) (sym is))
     ∙ ap (λ b. map new (if b then columns else columns ++ c ∷ [])) (sym unknown))
 
@@ -226,7 +226,7 @@ mark_more o kept names columns ps qs c q marks row x kq kc kr kx other here was 
     (λ h.
     ap (λ e. (s && is_named row (ps x)) || (t && (bytes_eq q.row row && e))) h
     ∙ grown_by s (is_named row (ps x)) t (bytes_eq q.row row) (λ at. ap (λ n. is_single o kept n) (eq_of q.row row at))
-    ∙ ap (λ e. s && (is_named row (ps x) || e)) (turned row q.row (bytes_eq row q.row) refl)
+    ∙ ap (λ e. s && (is_named row (ps x) || e)) (bytes_eq-turn row q.row (bytes_eq row q.row) refl)
     ∙ ap (λ e. s && e) (sym (named_push row (ps x) q))
     ∙ ap (λ pairs. s && is_named row pairs) (here h))
     (λ h.

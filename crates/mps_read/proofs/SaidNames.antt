@@ -13,7 +13,7 @@ use Rattle.mps_read.proofs.Marks.{same_eq}
 use Rattle.mps_read.proofs.Naming.{list_any_images}
 use Rattle.mps_read.proofs.PrintNames.{place_by, differ, same_bytes, place_absent, with_new, with_known}
 use Rattle.mps_read.proofs.ModelLists.{Misses, AreApart, apart_push, misses_names}
-use Rattle.mps_read.proofs.Lookups.{or_second, IsSingle, eq_of, turned}
+use Rattle.mps_read.proofs.Lookups.{or_second, IsSingle, eq_of, bytes_eq-turn}
 
 -- names and the pairs that name rows
 
@@ -82,13 +82,13 @@ places_eq x y names hx hy =
 
 -- names that differ
 
-pub missing : (x : List ℕ) (names : List (List ℕ)) → Misses x names → is_among x names ≡ false
-missing x [] all = refl
-missing x (y ∷ ys) (here, all) = rw (differ x y here) (missing x ys all)
+pub not_among : (x : List ℕ) (names : List (List ℕ)) → Misses x names → is_among x names ≡ false
+not_among x [] all = refl
+not_among x (y ∷ ys) (here, all) = rw (differ x y here) (not_among x ys all)
 
 pub single_names : (x : List ℕ) (names : List (List ℕ)) → AreApart names → IsSingle (bytes_eq x) names
 single_names x [] all = tt
-single_names x (y ∷ ys) (here, all) = ((λ at. ap (λ n. is_among n ys) (eq_of x y at) ∙ missing y ys here), single_names x ys all)
+single_names x (y ∷ ys) (here, all) = ((λ at. ap (λ n. is_among n ys) (eq_of x y at) ∙ not_among y ys here), single_names x ys all)
 
 pub apart_with : (n : List ℕ) (names : List (List ℕ)) → AreApart names → AreApart (with_name n names)
 apart_with n names all =

@@ -9,7 +9,7 @@ use Rattle.mps_read.specs.Drafts.{IsDraft, first_draft}
 use Rattle.mps_read.specs.Steps.{after, draft_model, run}
 use Rattle.mps_read.specs.declared.draft.Draft.{Draft}
 use Rattle.mps_read.proofs.Bridge.{begins}
-use Rattle.mps_read.proofs.Kept.{after_kept, after_few, first_kept}
+use Rattle.mps_read.proofs.DraftSteps.{after_kept, after_few, first_kept}
 use Rattle.mps_read.proofs.ModelReads.{is_model, by_outcome}
 
 -- a model has at most as many rows, and at most as many columns, as its file has bytes

@@ -5,7 +5,7 @@ use Rattle.std.proofs.lemmas.List.{map-append}
 use Rattle.mps_read.specs.Names.{is_among, place_among, with_name}
 use Rattle.mps_lines.specs.Forms.{Form, Pair}
 use Rattle.mps_read.specs.Headers.{section_of, has_section, has_sense_line_of, name_of, maximise_of}
-use Rattle.mps_read.specs.Sets.{first_given, set_of, bound_set_of, pairs_in, is_named}
+use Rattle.mps_read.specs.Sets.{first_name, set_of, bound_set_of, pairs_in, is_named}
 use Rattle.mps_read.specs.Rows.{RowLine, row_names_of, objective_of, kept_rows_of, kept_names_of, is_objective, is_single, rows_of, constant_of}
 use Rattle.mps_read.specs.Columns.{Bound, column_names_of, pairs_of, bounds_of, is_integer_of, cols_of}
 use Rattle.mps_read.specs.DraftColumns.{with_mark}
@@ -16,11 +16,11 @@ use Rattle.mps_lines.specs.declared.section.ValueKind.TheVariants.{Side, Range}
 use Rattle.mps_read.specs.declared.draft.Draft.{Draft}
 use Rattle.mps_read.specs.declared.draft.Mark.{Mark}
 use Rattle.mps_lines.proofs.Truths.{by_case, or_false}
-use Rattle.mps_read.proofs.Keeping.{longer}
+use Rattle.mps_read.proofs.DraftParts.{longer}
 use Rattle.mps_read.proofs.PrintNames.{same_bytes, place_first, with_new, with_known}
 use Rattle.mps_read.proofs.ModelLists.{AreApart, AreAmong, apart_push, misses_names, misses_among, among_more, among_last, among_push as all_among_push}
-use Rattle.mps_read.proofs.Lookups.{or_second, eq_of, turned}
-use Rattle.mps_read.proofs.SaidNames.{and_none, among_push, among_other, among_known, place_known, place_less, missing, apart_with, AreKnown, known_more, known_push, not_named}
+use Rattle.mps_read.proofs.Lookups.{or_second, eq_of, bytes_eq-turn}
+use Rattle.mps_read.proofs.SaidNames.{and_none, among_push, among_other, among_known, place_known, place_less, not_among, apart_with, AreKnown, known_more, known_push, not_named}
 use Rattle.mps_read.proofs.SaidRows.{states_said, place_said, other_objective}
 use Rattle.mps_read.proofs.SaidColumns.{mark_past_row, mark_past_column, mark_more}
 
@@ -68,7 +68,7 @@ pub record AreLawful (o : Option (List ℕ)) (names : List (List ℕ)) (rows : L
   pub fresh_columns : (c : List ℕ) → is_among c columns ≡ false → (pairs c ≡ []) × (bounds c ≡ [])
   pub rows_within : (r c : ℕ) → length names ≤ r → has_mark r c marks ≡ false
   pub columns_within : (r c : ℕ) → length columns ≤ c → has_mark r c marks ≡ false
-  pub marked : (row c : List ℕ) → is_among row names ≡ true → is_among c columns ≡ true → has_mark (place_among row names) (place_among c columns) marks ≡ (is_single o (names_in rows) row && is_named row (pairs c))
+  pub same_marks : (row c : List ℕ) → is_among row names ≡ true → is_among c columns ≡ true → has_mark (place_among row names) (place_among c columns) marks ≡ (is_single o (names_in rows) row && is_named row (pairs c))
 
 abbrev pub IsLawful : List Form → List Mark → Type 0
 IsLawful before marks = AreLawful (objective_of before) (row_names_of before) (kept_rows_of before) (pairs_in Side before) (pairs_in Range before) (column_names_of before) (λ c. pairs_of c before) (λ c. bounds_of c before) marks
@@ -87,7 +87,7 @@ first_lawful = record {
   fresh_columns = λ c h. (refl, refl);
   rows_within = λ r c h. refl;
   columns_within = λ r c h. refl;
-  marked = λ row c h i. absurd (false≢true h);
+  same_marks = λ row c h i. absurd (false≢true h);
 }
 
 pub new_objective : (o : Option (List ℕ)) (names : List (List ℕ)) (name : List ℕ) → IsKnownObjective o names → is_among name names ≡ false → is_objective o name ≡ false
@@ -98,9 +98,9 @@ new_objective (Some first) names name known new =
     (λ h. h)
 
 pub new_kept : (names kept : List (List ℕ)) (name : List ℕ) → AreAmong names kept → is_among name names ≡ false → is_among name kept ≡ false
-new_kept names kept name known new = missing name kept (misses_among name names kept new known)
+new_kept names kept name known new = not_among name kept (misses_among name names kept new known)
 
-given_known : (o : Option (List ℕ)) (names : List (List ℕ)) (name : List ℕ) → IsKnownObjective o names → IsKnownObjective (first_given o name) (names ++ name ∷ [])
+given_known : (o : Option (List ℕ)) (names : List (List ℕ)) (name : List ℕ) → IsKnownObjective o names → IsKnownObjective (first_name o name) (names ++ name ∷ [])
 given_known None names name known = among_last names name
 given_known (Some first) names name known = among_known first names name known
 
@@ -108,7 +108,7 @@ objective_more : (o : Option (List ℕ)) (names : List (List ℕ)) (name : List 
 objective_more None names name known = tt
 objective_more (Some first) names name known = among_known first names name known
 
-given_apart : (o : Option (List ℕ)) (kept : List (List ℕ)) (name x : List ℕ) → ((y : List ℕ) → is_objective o y ≡ true → is_among y kept ≡ false) → is_among name kept ≡ false → is_objective (first_given o name) x ≡ true → is_among x kept ≡ false
+given_apart : (o : Option (List ℕ)) (kept : List (List ℕ)) (name x : List ℕ) → ((y : List ℕ) → is_objective o y ≡ true → is_among y kept ≡ false) → is_among name kept ≡ false → is_objective (first_name o name) x ≡ true → is_among x kept ≡ false
 given_apart None kept name x apart new h = ap (λ n. is_among n kept) (eq_of x name h) ∙ new
 given_apart (Some first) kept name x apart new h = apart x h
 
@@ -128,10 +128,10 @@ module _ (o : Option (List ℕ)) (names : List (List ℕ)) (rows : List RowLine)
       ∙ sym (ap (λ n. is_single more others row && n) unnamed ∙ and_none (is_single more others row)))
       (λ h.
       let known : is_among row names ≡ true = sym (among_other row names name h) ∙ kr in
-      ap (λ k. has_mark k (place_among c columns) marks) (place_known row names name known) ∙ law.marked row c known kc
+      ap (λ k. has_mark k (place_among c columns) marks) (place_known row names name known) ∙ law.same_marks row c known kc
       ∙ ap (λ s. s && is_named row (pairs c)) (same h))
 
-  pub free_lawful : (name : List ℕ) → is_among name names ≡ false → AreLawful (first_given o name) (names ++ name ∷ []) rows sides ranges columns pairs bounds marks
+  pub free_lawful : (name : List ℕ) → is_among name names ≡ false → AreLawful (first_name o name) (names ++ name ∷ []) rows sides ranges columns pairs bounds marks
   free_lawful name new = record {
     names_apart = apart_push names name law.names_apart (misses_names name names new);
     objective_known = given_known o names name law.objective_known;
@@ -145,9 +145,9 @@ module _ (o : Option (List ℕ)) (names : List (List ℕ)) (rows : List RowLine)
     fresh_columns = law.fresh_columns;
     rows_within = λ r c h. law.rows_within r c (omega (arith, h, longer names name));
     columns_within = law.columns_within;
-    marked = λ row c kr kc.
-        marked_row (first_given o name) (names_in rows) name row c new
-        (λ h. ap (λ b. b || is_among row (names_in rows)) (other_objective o name row (turned row name false h))) kr kc;
+    same_marks = λ row c kr kc.
+        marked_row (first_name o name) (names_in rows) name row c new
+        (λ h. ap (λ b. b || is_among row (names_in rows)) (other_objective o name row (bytes_eq-turn row name false h))) kr kc;
   }
 
   pub row_lawful : (kind : RowKind) (name : List ℕ) → is_among name names ≡ false → AreLawful o (names ++ name ∷ []) (rows ++ record { kind = kind; name = name } ∷ []) sides ranges columns pairs bounds marks
@@ -171,7 +171,7 @@ module _ (o : Option (List ℕ)) (names : List (List ℕ)) (rows : List RowLine)
         fresh_columns = law.fresh_columns;
         rows_within = λ r c h. law.rows_within r c (omega (arith, h, longer names name));
         columns_within = law.columns_within;
-        marked = λ row c kr kc.
+        same_marks = λ row c kr kc.
             marked_row o (names_in (rows ++ record { kind = kind; name = name } ∷ [])) name row c new
             (λ h. ap (λ b. is_objective o row || b) (sym (ap (is_among row) more ∙ among_other row (names_in rows) name h))) kr kc;
       }
@@ -190,7 +190,7 @@ module _ (o : Option (List ℕ)) (names : List (List ℕ)) (rows : List RowLine)
     fresh_columns = law.fresh_columns;
     rows_within = law.rows_within;
     columns_within = law.columns_within;
-    marked = law.marked;
+    same_marks = law.same_marks;
   }
 
   pub ranges_lawful : (more : List Pair) → AreKnown names more → AreLawful o names rows sides more columns pairs bounds marks
@@ -207,7 +207,7 @@ module _ (o : Option (List ℕ)) (names : List (List ℕ)) (rows : List RowLine)
     fresh_columns = law.fresh_columns;
     rows_within = law.rows_within;
     columns_within = law.columns_within;
-    marked = law.marked;
+    same_marks = law.same_marks;
   }
 
   pub bounds_lawful : (more : List ℕ → List Bound) → ((c : List ℕ) → is_among c columns ≡ false → more c ≡ bounds c) → AreLawful o names rows sides ranges columns pairs more marks
@@ -224,7 +224,7 @@ module _ (o : Option (List ℕ)) (names : List (List ℕ)) (rows : List RowLine)
     fresh_columns = λ c h. ((law.fresh_columns c h).0, same c h ∙ (law.fresh_columns c h).1);
     rows_within = law.rows_within;
     columns_within = law.columns_within;
-    marked = law.marked;
+    same_marks = law.same_marks;
   }
 
   -- one more column
@@ -240,7 +240,7 @@ module _ (o : Option (List ℕ)) (names : List (List ℕ)) (rows : List RowLine)
       ∙ sym (ap (λ ps. is_single o (names_in rows) row && is_named row ps) none ∙ and_none (is_single o (names_in rows) row)))
       (λ h.
       let known : is_among x columns ≡ true = sym (among_other x columns c h) ∙ kx in
-      ap (λ k. has_mark (place_among row names) k marks) (place_known x columns c known) ∙ law.marked row x kr known)
+      ap (λ k. has_mark (place_among row names) k marks) (place_known x columns c known) ∙ law.same_marks row x kr known)
 
   new_column_lawful : (c : List ℕ) → is_among c columns ≡ false → AreLawful o names rows sides ranges (columns ++ c ∷ []) pairs bounds marks
   new_column_lawful c new = record {
@@ -256,7 +256,7 @@ module _ (o : Option (List ℕ)) (names : List (List ℕ)) (rows : List RowLine)
     fresh_columns = λ x h. law.fresh_columns x (or_false (is_among x columns) (bytes_eq x c) (sym (among_push x columns c) ∙ h)).0;
     rows_within = law.rows_within;
     columns_within = λ r k h. law.columns_within r k (omega (arith, h, longer columns c));
-    marked = λ row x kr kx. marked_column c row x new kr kx;
+    same_marks = λ row x kr kx. marked_column c row x new kr kx;
   }
 
   pub column_lawful : (c : List ℕ) → AreLawful o names rows sides ranges (with_name c columns) pairs bounds marks
@@ -291,6 +291,6 @@ module _ (o : Option (List ℕ)) (names : List (List ℕ)) (rows : List RowLine)
     columns_within = λ r k h.
         mark_past_column (is_objective o q.row) (names_in rows) q.row (place_among q.row names) (place_among c columns) r k marks
         (omega (arith, h, place_less c columns kc)) (law.columns_within r k h);
-    marked = λ row x kr kx.
-        mark_more o (names_in rows) names columns pairs qs c q marks row x kq kc kr kx (other x) (here x) (law.marked row x kr kx);
+    same_marks = λ row x kr kx.
+        mark_more o (names_in rows) names columns pairs qs c q marks row x kq kc kr kx (other x) (here x) (law.same_marks row x kr kx);
   }

@@ -13,8 +13,8 @@ use Rattle.mps_read.specs.declared.draft.RowPlace.TheVariants.{Objective, Droppe
 use Rattle.mps_read.specs.declared.draft.RowState.{RowState}
 
 -- what a row's name stands for, before any value
-abbrev pub fresh : RowPlace → RowState
-fresh place = record { place = place; has_side = false; has_range = false }
+abbrev pub fresh_state : RowPlace → RowState
+fresh_state place = record { place = place; has_side = false; has_range = false }
 
 -- the first row without right-hand side is the objective, and the others are dropped
 abbrev pub free_place : Option (List ℕ) → RowPlace
@@ -23,7 +23,7 @@ free_place (Some first) = Dropped
 
 -- the state of a name's number
 abbrev pub state_at : List RowState → ℕ → RowState
-state_at states number = slice_index_or states number (fresh Dropped)
+state_at states number = slice_index_or states number (fresh_state Dropped)
 
 -- entries of dropped rows aren't tested for repetition
 abbrev pub is_tested : RowPlace → Bool
@@ -41,8 +41,8 @@ abbrev pub marked_state : ValueKind → RowState → RowState
 marked_state kind s = if is_tested s.place then with_value_mark kind s else s
 
 -- the states with a value in the row of a number
-abbrev pub with_marked : ValueKind → ℕ → List RowState → List RowState
-with_marked kind number states = slice_set states number
+abbrev pub with_marked_state : ValueKind → ℕ → List RowState → List RowState
+with_marked_state kind number states = slice_set states number
     (marked_state kind (state_at states number))
 
 -- a row with a right-hand side or a range

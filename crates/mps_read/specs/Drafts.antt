@@ -45,14 +45,14 @@ IsPlaced kept (Kept row) = row < kept
 abbrev pub latest_at : List ℕ → ℕ → ℕ
 latest_at latest row = slice_index_or latest row 0
 
--- one state for each row's name, one column for each column's name, and marks by which the last column's entries can be
--- told from the others
+-- one state for each row's name, one column for each column's name, and marks by which the last
+-- column's entries can be told from the others
 pub record IsDraft (d : Draft) : Type 0 where
   pub states : length d.row_states ≡ length d.row_names
   pub latest : length d.latest ≡ length d.row_names
   pub cols : length d.cols ≡ length d.column_names
   pub rows : length d.rows ≡ d.kept
-  pub placed : (row : ℕ) → IsPlaced d.kept (state_at d.row_states row).place
-  pub marked : (row col : ℕ) → length d.column_names ≤ col + 1 →
+  pub places : (row : ℕ) → IsPlaced d.kept (state_at d.row_states row).place
+  pub last_marks : (row col : ℕ) → length d.column_names ≤ col + 1 →
       has_mark row col d.marks ≡ (latest_at d.latest row == col + 1)
-  pub marked_before : (row : ℕ) → latest_at d.latest row ≤ length d.column_names
+  pub latest_within : (row : ℕ) → latest_at d.latest row ≤ length d.column_names

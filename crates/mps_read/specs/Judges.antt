@@ -6,7 +6,8 @@ use Rattle.mps_read.specs.declared.draft.Draft.{Draft}
 use Rattle.mps_read.specs.declared.draft.Judgement.{Judgement}
 use Rattle.mps_read.specs.declared.draft.Judgement.TheVariants.{Refused, Taken, Ended}
 
--- the answer on a line: the kind that refuses it, or none does and the draft is the next, or it ends the file
+-- the answer on a line: the kind that refuses it, or none does and the draft is the next, or it
+-- ends the file
 abbrev pub Judges : Judgement → Draft → Form → Draft → Type 0
 Judges (Refused kind) old form new = draft_kind old form ≡ Some kind
 Judges Taken old form new = (draft_kind old form ≡ None) × (is_end form ≡ false)

@@ -1,4 +1,4 @@
--- Why a line isn't allowed after those before it: sixteen tests, of which the first that applies decides.
+-- Why a line isn't allowed after those before it: the first of sixteen tests that applies decides.
 use Rattle.std.specs.Prelude.{ℕ, ◌+◌, Bool, true, false, not, ◌&&◌, ◌||◌, ◌==◌, nat_le, List, [], ◌∷◌, ◌++◌, length, Option, Some, None, is_none, is_some, if◌then◌else◌}
 use Rattle.std.specs.Str.{bytes_eq}
 use Rattle.mps_read.specs.Names.{is_among, place_among, is_long}
@@ -45,8 +45,8 @@ abbrev pub rank_of : Option Section → ℕ
 rank_of None = 0
 rank_of (Some section) = rank section
 
--- the order of sections, by the last one and whether this one stood before: right-hand sides, ranges and bounds in any
--- order, each at most once
+-- the order of sections, by the last one and whether this one stood before: right-hand sides,
+-- ranges and bounds in any order, each at most once
 abbrev pub is_in_order : Option Section → Bool → Section → Bool
 is_in_order last stood Name = rank_of last == 0
 is_in_order last stood Objsense = nat_le (rank_of last) 1

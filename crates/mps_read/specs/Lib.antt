@@ -12,5 +12,5 @@ pub mod DraftKinds
 pub mod Drafts
 pub mod Steps
 pub mod Judges
-pub mod Outcomes
+pub mod Refusals
 pub mod KindNumbers

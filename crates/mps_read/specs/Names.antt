@@ -12,8 +12,8 @@ abbrev pub place_among : List ℕ → List (List ℕ) → ℕ
 place_among name names = position_or_len (bytes_eq name) names
 
 -- a list with one more item at its end, unless the item's name is known
-abbrev pub extended : {A : Type 0} → Bool → A → List A → List A
-extended known item items = if known then items else items ++ item ∷ []
+abbrev pub with_item : {A : Type 0} → Bool → A → List A → List A
+with_item known item items = if known then items else items ++ item ∷ []
 
 -- names with one more at their end, where it isn't among them
 abbrev pub with_name : List ℕ → List (List ℕ) → List (List ℕ)

@@ -7,7 +7,7 @@ use Rattle.mps_model.specs.declared.model.RowKind.{RowKind}
 use Rattle.mps_model.specs.declared.model.MpsRow.{MpsRow}
 use Rattle.mps_read.specs.Names.{is_among, with_name}
 use Rattle.mps_lines.specs.Forms.{Form, Pair, FreeRow, KeptRow}
-use Rattle.mps_read.specs.Sets.{first_given, pairs_in, number_of, number_or_zero}
+use Rattle.mps_read.specs.Sets.{first_name, pairs_in, number_of, number_or_zero}
 use Rattle.mps_lines.specs.declared.section.ValueKind.TheVariants.{Side, Range}
 
 -- the names of all rows, with those of the objective and of dropped rows
@@ -20,7 +20,7 @@ row_names_of (_ ∷ before) = row_names_of before
 -- the objective is the first of the rows without right-hand side, and the others are dropped
 abbrev pub objective_of : List Form → Option (List ℕ)
 objective_of [] = None
-objective_of (FreeRow name ∷ before) = first_given (objective_of before) name
+objective_of (FreeRow name ∷ before) = first_name (objective_of before) name
 objective_of (_ ∷ before) = objective_of before
 
 -- a line with a row of the model

@@ -1,5 +1,5 @@
--- The sets of right-hand sides, ranges and bounds: a section uses the set of its first data line. The lines stand newest
--- first, the pairs in the order of the file.
+-- The sets of right-hand sides, ranges and bounds: a section uses the set of its first data line.
+-- The lines stand newest first, the pairs in the order of the file.
 use Rattle.std.specs.Prelude.{ℕ, Bool, true, false, ◌&&◌, List, [], ◌∷◌, ◌++◌, Option, Some, None, if◌then◌else◌}
 use Rattle.std.specs.List.{list_any}
 use Rattle.std.specs.Str.{bytes_eq}
@@ -10,10 +10,10 @@ use Rattle.mps_lines.specs.Forms.{Form, Pair, Values, BoundLine}
 use Rattle.mps_lines.specs.declared.section.ValueKind.{ValueKind}
 use Rattle.mps_lines.specs.declared.section.ValueKind.TheVariants.{Side, Range}
 
--- what is there already, or else the new one
-abbrev pub first_given : Option (List ℕ) → List ℕ → Option (List ℕ)
-first_given None word = Some word
-first_given (Some first) word = Some first
+-- the name that is there already, or else the new one
+abbrev pub first_name : Option (List ℕ) → List ℕ → Option (List ℕ)
+first_name None word = Some word
+first_name (Some first) word = Some first
 
 -- whether a line of this set is used
 abbrev pub is_used : Option (List ℕ) → List ℕ → Bool
@@ -30,13 +30,13 @@ is_kind _ _ = false
 abbrev pub set_of : ValueKind → List Form → Option (List ℕ)
 set_of kind [] = None
 set_of kind (Values other set first second ∷ before) =
-    if is_kind kind other then first_given (set_of kind before) set else set_of kind before
+    if is_kind kind other then first_name (set_of kind before) set else set_of kind before
 set_of kind (_ ∷ before) = set_of kind before
 
 -- and of bounds
 abbrev pub bound_set_of : List Form → Option (List ℕ)
 bound_set_of [] = None
-bound_set_of (BoundLine kind set column numeral ∷ before) = first_given (bound_set_of before) set
+bound_set_of (BoundLine kind set column numeral ∷ before) = first_name (bound_set_of before) set
 bound_set_of (_ ∷ before) = bound_set_of before
 
 -- the pairs of a line

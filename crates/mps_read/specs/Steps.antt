@@ -1,12 +1,12 @@
 -- The reader's own way over the lines: it keeps a draft in place of the lines.
 use Rattle.std.specs.Prelude.{ℕ, ◌+◌, true, List, [], ◌∷◌, Option, Some, None, if◌then◌else◌}
 use Rattle.ip_core.specs.Decimals.{Number}
-use Rattle.mps_read.specs.Names.{is_among, place_among, extended, with_name}
+use Rattle.mps_read.specs.Names.{is_among, place_among, with_item, with_name}
 use Rattle.mps_read.specs.Numerals.{decimal_of}
 use Rattle.mps_lines.specs.Forms.{Form, Pair, Blank, Spoilt, Head, UnknownHead, Stray, Miscounted, SenseLine, FreeRow, KeptRow, UntypedRow, Marker, UnknownMarker, Entries, Values, BoundLine, UntypedBound, form_of, is_end, sense_named}
-use Rattle.mps_read.specs.Sets.{first_given, is_used}
+use Rattle.mps_read.specs.Sets.{first_name, is_used}
 use Rattle.mps_model.specs.Prints.{fresh_row}
-use Rattle.mps_read.specs.DraftRows.{fresh, free_place, with_marked, with_value, with_constant, place_of_pair}
+use Rattle.mps_read.specs.DraftRows.{fresh_state, free_place, with_marked_state, with_value, with_constant, place_of_pair}
 use Rattle.mps_read.specs.DraftColumns.{fresh_column, with_coefficient, with_bound, with_mark, with_latest}
 use Rattle.mps_read.specs.DraftKinds.{draft_kind, values_use}
 use Rattle.mps_read.specs.Readings.{Reading, Read, RefusedAt, outcome, is_maximise, name_or_empty}
@@ -34,7 +34,7 @@ with_head u = record u { has_begun = true }
 
 -- the section after a data line of a set
 abbrev pub with_set : List ℕ → SetUse → SetUse
-with_set set u = if is_used u.set set then record u { set = first_given u.set set } else u
+with_set set u = if is_used u.set set then record u { set = first_name u.set set } else u
 
 -- the draft after a section line
 abbrev pub after_head : Draft → Section → List ℕ → Draft
@@ -52,10 +52,10 @@ abbrev pub after_free : Draft → List ℕ → Draft
 after_free d name =
     record d {
       row_names = with_name name d.row_names;
-      row_states = extended (is_among name d.row_names)
-          (fresh (free_place d.objective)) d.row_states;
-      objective = first_given d.objective name;
-      latest = extended (is_among name d.row_names) 0 d.latest;
+      row_states = with_item (is_among name d.row_names)
+          (fresh_state (free_place d.objective)) d.row_states;
+      objective = first_name d.objective name;
+      latest = with_item (is_among name d.row_names) 0 d.latest;
     }
 
 -- after a row of the model
@@ -63,10 +63,10 @@ abbrev pub after_row : Draft → RowKind → List ℕ → Draft
 after_row d kind name =
     record d {
       row_names = with_name name d.row_names;
-      row_states = extended (is_among name d.row_names) (fresh (Kept d.kept)) d.row_states;
+      row_states = with_item (is_among name d.row_names) (fresh_state (Kept d.kept)) d.row_states;
       kept = if is_among name d.row_names then d.kept else d.kept + 1;
-      rows = extended (is_among name d.row_names) (fresh_row kind name) d.rows;
-      latest = extended (is_among name d.row_names) 0 d.latest;
+      rows = with_item (is_among name d.row_names) (fresh_row kind name) d.rows;
+      latest = with_item (is_among name d.row_names) 0 d.latest;
     }
 
 -- with a column, where it is new
@@ -74,7 +74,7 @@ abbrev pub after_column : Draft → List ℕ → Draft
 after_column d column =
     record d {
       column_names = with_name column d.column_names;
-      cols = extended (is_among column d.column_names) (fresh_column d.is_integer column) d.cols;
+      cols = with_item (is_among column d.column_names) (fresh_column d.is_integer column) d.cols;
     }
 
 -- with an entry: of the row of a name's number in the column of a number
@@ -96,7 +96,7 @@ after_entry_pair from col pair d =
 abbrev pub after_value : ValueKind → ℕ → RowPlace → Number → Draft → Draft
 after_value kind row place value d =
     record d {
-      row_states = with_marked kind row d.row_states;
+      row_states = with_marked_state kind row d.row_states;
       rows = with_value kind place value d.rows;
       constant = with_constant kind place value d.constant;
     }

@@ -67,7 +67,14 @@ impl MpsKind {
     }
 }
 
-/// Why a file has no model.
+/// The first line that isn't allowed, numbered from 1, and why.
+#[derive(Clone, Copy, Debug, PartialEq, Eq)]
+pub struct MpsRefusal {
+    pub line: u32,
+    pub kind: MpsKind,
+}
+
+/// Why a call gave no model: a line of the file refuses it, or want of memory.
 #[derive(Clone, Copy, Debug, PartialEq, Eq, Error)]
 pub enum MpsError {
     /// The first line that isn't allowed, numbered from 1, and why.

@@ -10,21 +10,22 @@
 //! names.
 #![tactic(auto)]
 
-mod bound;
+mod bounds;
+mod columns;
 mod draft;
-mod entry;
 mod error;
-mod head;
+mod found_row;
 mod name;
 mod names;
 mod numeral;
-mod pair;
 mod printer;
 mod reader;
-mod row_line;
+mod rows;
+mod section_line;
+mod sets;
+mod sides_and_ranges;
 #[cfg(test)]
 mod tests;
-mod value;
 
 pub use error::{MpsError, MpsKind};
 pub use mps_model::{Limit, MpsCol, MpsEntry, MpsModel, MpsRow, RowKind};

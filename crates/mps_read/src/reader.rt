@@ -1,32 +1,25 @@
 ghost use Rattle.std.specs.Prelude.{◌≡◌, ◌≤◌, ◌<◌, ◌^◌, length, IfOk, MatchResult};
 ghost use Rattle.mps_lines.specs.Forms.{form_of, data_form};
-ghost use Rattle.mps_read.specs.Readings.{Reads, name_or_empty as name_or_empty_of};
+ghost use Rattle.mps_read.specs.Readings.{Reads, IsRefused, name_or_empty as name_or_empty_of};
 ghost use Rattle.mps_read.specs.Steps.{draft_model};
-ghost use Rattle.mps_read.specs.Outcomes.{IsOutcome, IsCause};
+ghost use Rattle.mps_read.specs.Refusals.{IsCause};
 ghost use Rattle.mps_lines.specs.FieldWords.{field_words, AreFields};
 ghost use Rattle.mps_read.specs.Judges.{Judges};
 ghost use Rattle.mps_read.specs.Drafts.{IsDraft};
 ghost use Rattle.mps_model.specs.MpsModels.{IsMpsModel};
 
-use crate::bound::take_bounds;
+use crate::bounds::take_bounds;
+use crate::columns::take_columns;
 use crate::draft::{Draft, Judgement};
-use crate::entry::take_columns;
-use crate::error::{MpsError, MpsKind};
-use crate::head::{take_head, take_sense};
+use crate::error::{MpsError, MpsKind, MpsRefusal};
 use crate::name::empty_name;
-use crate::row_line::take_rows;
-use crate::value::take_values;
+use crate::rows::take_rows;
+use crate::section_line::{take_head, take_sense};
+use crate::sides_and_ranges::take_values;
 use ip_core::{Name, OutOfMemory};
 use mps_lines::{Fields, Section, ValueKind, fields_of, is_comment, is_data, is_text, next_line};
 use mps_model::MpsModel;
 use std::alloc::Global;
-
-/// What a text is.
-#[derive(Drop)]
-pub enum Outcome {
-    Read(MpsModel),
-    RefusedAt(u32, MpsKind),
-}
 
 /// A data line, by the section that it stands in.
 fn take_data(alloc: Global, draft: &mut Draft, fields: Fields<'_>) -> Result<Judgement, OutOfMemory>
@@ -35,7 +28,8 @@ fn take_data(alloc: Global, draft: &mut Draft, fields: Fields<'_>) -> Result<Jud
     requires few_columns { length draft.old.column_names < 2 ^ 31 }
     requires fields { AreFields (field_words fields) }
     ensures { IfOk result (λ j. Judges j draft.old
-        (data_form draft.old.section draft.old.has_sense_line (field_words fields.entry)) draft.new) }
+        (data_form draft.old.section draft.old.has_sense_line (field_words fields.entry))
+        draft.new) }
 {
     match draft.section {
         None | Some(Section::Name | Section::Endata) => {
@@ -105,23 +99,27 @@ fn finish(alloc: Global, draft: Draft) -> MpsModel
 }
 
 /// Reads the lines in order to the end of the file, or to the first that isn't allowed.
-fn read_lines(alloc: Global, bytes: &[u8]) -> Result<Outcome, OutOfMemory>
+fn read_lines(alloc: Global, bytes: &[u8]) -> Result<Result<MpsModel, MpsRefusal>, OutOfMemory>
     requires { length bytes.now ≤ 2 ^ 30 }
-    ensures { IfOk result (λ outcome. IsOutcome bytes.now outcome) }
+    ensures { IfOk result (λ answer. MatchResult answer
+        (λ m. Reads bytes.now m) (λ r. IsRefused bytes.now r.line r.kind)) }
 {
     let mut draft = Draft::new(alloc);
     let mut rest = bytes;
     let mut number: u32 = 1;
     while let Some((line, after)) = next_line(rest) {
         match take_line(alloc, &mut draft, line)? {
-            Judgement::Refused(kind) => return Ok(Outcome::RefusedAt(number, kind)),
-            Judgement::Ended => return Ok(Outcome::Read(finish(alloc, draft))),
+            Judgement::Refused(kind) => return Ok(Err(MpsRefusal { line: number, kind })),
+            Judgement::Ended => return Ok(Ok(finish(alloc, draft))),
             Judgement::Taken => {}
         }
         rest = after;
         number += 1;
     }
-    Ok(Outcome::RefusedAt(number, MpsKind::NoEndata))
+    Ok(Err(MpsRefusal {
+        line: number,
+        kind: MpsKind::NoEndata,
+    }))
 }
 
 /// Reads a file: its model, or the first line that isn't allowed given all lines before it, with the first kind that
@@ -135,7 +133,7 @@ pub fn read(alloc: Global, bytes: &[u8]) -> Result<MpsModel, MpsError>
     ensures few_columns { IfOk result (λ m. length m.cols ≤ length bytes.now) }
 {
     match read_lines(alloc, bytes)? {
-        Outcome::Read(model) => Ok(model),
-        Outcome::RefusedAt(line, kind) => Err(MpsError::Refused { line, kind }),
+        Ok(model) => Ok(model),
+        Err(MpsRefusal { line, kind }) => Err(MpsError::Refused { line, kind }),
     }
 }

@@ -3,7 +3,7 @@ use Rattle.std.specs.Fmt.{digits}
 use Rattle.ip_core.specs.Decimals.{Number}
 use Rattle.mps_model.specs.declared.model.Limit.TheVariants.{Unset, At}
 use Rattle.mps_model.specs.declared.model.RowKind.TheVariants.{Less}
-use Rattle.mps_model.specs.Prints.{printed}
+use Rattle.mps_model.specs.Prints.{canonical_text}
 use Rattle.sample_model.specs.Draws.{next, draw_below}
 use Rattle.sample_model.specs.Wholes.{whole_decimal}
 use Rattle.sample_model.specs.Knapsacks.{knapsack}
@@ -67,7 +67,7 @@ unfolding next digits
 small_model = refl
 
 -- as text
-small_text : printed (sample 2 2 6) ≡
+small_text : canonical_text (sample 2 2 6) ≡
     codes "NAME GEN\nROWS\n N OBJ\n L R0\n L R1\nCOLUMNS\n M 'MARKER' 'INTORG'\n C0 OBJ -94\n C0 R0 16\n C0 R1 15\n C1 OBJ -4e1\n M 'MARKER' 'INTEND'\nRHS\n RHS R0 16\n RHS R1 15\nBOUNDS\n UP BND C0 3\n UP BND C1 3\nENDATA\n"
 unfolding next digits
 small_text = refl

@@ -7,7 +7,7 @@ use Rattle.ip_core.specs.Decimals.{is_digit}
 use Rattle.ip_core.specs.Names.{IsName, IsNameByte}
 use Rattle.ip_core.proofs.DecimalDigits.{and_true, le_of_test}
 use Rattle.ip_core.proofs.DecimalPrints.{written_digits}
-use Rattle.mps_model.specs.MpsModels.{IsField, IsRowName, AreDistinct}
+use Rattle.mps_model.specs.MpsModels.{IsFieldName, IsRowName, AreDistinct}
 use Rattle.sample_model.specs.Wholes.{numbered_name}
 
 -- names of a letter and a number
@@ -36,7 +36,7 @@ numbered_is letter n low high small =
       visible = All-cons IsNameByte letter (decimal n) (record { low = low; high = high }) (digits_visible (decimal n) (written_digits n small));
     }
 
-pub numbered_field : (letter n : ℕ) → 33 ≤ letter → letter ≤ 126 → n < 2 ^ 64 → IsField (numbered_name letter n)
+pub numbered_field : (letter n : ℕ) → 33 ≤ letter → letter ≤ 126 → n < 2 ^ 64 → IsFieldName (numbered_name letter n)
 numbered_field letter n low high small = record { is_name = numbered_is letter n low high small; nonempty = λ e. different 0 (length (numbered_name letter n)) (omega arith) (sym (ap length e)) }
 
 abbrev first : List ℕ → ℕ
@@ -44,7 +44,7 @@ first name = slice_index_or name 0 0
 
 -- the name of a row
 pub row_name : (n : ℕ) → n < 2 ^ 64 → IsRowName (numbered_name 82 n)
-row_name n small = record { field = numbered_field 82 n (omega arith) (omega arith) small; unmarked = λ e. different 39 82 (omega arith) (sym (ap first e)) }
+row_name n small = record { field = numbered_field 82 n (omega arith) (omega arith) small; not_marker = λ e. different 39 82 (omega arith) (sym (ap first e)) }
 
 pub same_number : (letter m n : ℕ) → m < 2 ^ 64 → n < 2 ^ 64 → numbered_name letter m ≡ numbered_name letter n → m ≡ n
 same_number letter m n small few e = decimal_injective m n small few (ap (drop 1) e)

@@ -30,7 +30,7 @@ objective_name = record { short = omega arith; visible = one_byte 79 (66 ∷ 74 
 objective_row_name : IsRowName (codes "OBJ")
 objective_row_name = record {
   field = record { is_name = objective_name; nonempty = λ e. different 0 3 (omega arith) (sym (ap length e)) };
-  unmarked = λ e. different 39 79 (omega arith) (sym (ap (λ (name : List ℕ). slice_index_or name 0 0) e));
+  not_marker = λ e. different 39 79 (omega arith) (sym (ap (λ (name : List ℕ). slice_index_or name 0 0) e));
 }
 
 -- ---- rows

@@ -1,7 +1,7 @@
 -- The cause of what a command found.
 use Rattle.std.specs.Prelude.{ℕ, ◌≡◌, List, Option, Some, None, Result, Ok, Err}
 use Rattle.ip_core.specs.declared.model.ModelParts.{ModelParts}
-use Rattle.mps_model.specs.Prints.{printed}
+use Rattle.mps_model.specs.Prints.{canonical_text}
 use Rattle.mps_model.specs.declared.model.MpsModel.{MpsModel}
 use Rattle.plain_tasks.specs.LimitCauses.{IsLimitCause}
 use Rattle.plain_tasks.specs.Truth.{IsTrueAnswer}
@@ -63,7 +63,7 @@ pub data IsSolved (tune : Tune) (upper : Option ℕ) (mps : MpsModel)
 
 -- what printing a model finds: its canonical text, or no memory
 pub data IsPrinted (mps : MpsModel) (found : Result Outcome Failure) : Type 0 where
-  Canonical : found ≡ Ok (Printed (printed mps)) → IsPrinted mps found
+  Canonical : found ≡ Ok (Printed (canonical_text mps)) → IsPrinted mps found
   Unprinted : found ≡ Err Memory → IsPrinted mps found
 
 -- what solving finds, of the model of the file that is asked for

@@ -1,6 +1,6 @@
 ghost use Rattle.std.specs.Prelude.{◌≤◌, length, IfOk, IsErrOf, MatchResult};
 ghost use Rattle.mps_model.specs.MpsModels.{IsMpsModel};
-ghost use Rattle.mps_read.specs.Outcomes.{IsCause};
+ghost use Rattle.mps_read.specs.Refusals.{IsCause};
 ghost use Rattle.mps_read.specs.Readings.{Reads};
 ghost use Rattle.xsearch.specs.ModelFiles.{IsModelFile, IsSmall, IsFileFailure};
 ghost use Rattle.xsearch.specs.Shelves.{IsFile, IsOneRead};

@@ -2,7 +2,7 @@ use Rattle.std.proofs.Common.{◌∙◌, sym, subst, arith}
 use Rattle.mps_lines.specs.Forms.{form_of}
 use Rattle.mps_read.specs.Drafts.{IsDraft}
 use Rattle.mps_read.proofs.Bridge.{begins}
-use Rattle.mps_read.proofs.Kept.{after_kept, after_few, first_kept}
+use Rattle.mps_read.proofs.DraftSteps.{after_kept, after_few, first_kept}
 use Rattle.mps_read.proofs.Runs.{run_taken}
 use Rattle.mps_read.proofs.reader.read_lines.Goals as goal
 

@@ -94,7 +94,8 @@ pub fn take_rows(
 ) -> Result<Judgement, OutOfMemory>
     requires few { draft.old.kept < 2 ^ 31 }
     requires fields { AreFields (field_words fields) }
-    ensures { IfOk result (λ j. Judges j draft.old (rows_form (field_words fields.entry)) draft.new) }
+    ensures { IfOk result (λ j. Judges j draft.old
+        (rows_form (field_words fields.entry)) draft.new) }
 {
     let Fields::Double(kind, name) = fields else {
         return Ok(Judgement::Refused(MpsKind::FieldCount));

@@ -2,44 +2,22 @@ ghost use Rattle.std.specs.Prelude.{◌≡◌, ◌≤◌, ◌<◌, ◌^◌, true
 ghost use Rattle.mps_read.specs.Names.{is_long as is_long_name};
 ghost use Rattle.mps_lines.specs.Forms.{values_form, Values};
 ghost use Rattle.mps_read.specs.Sets.{is_used as is_used_set};
-ghost use Rattle.mps_read.specs.Steps.{with_set, after_value, with_values_set};
+ghost use Rattle.mps_read.specs.Steps.{after_value, with_values_set};
 ghost use Rattle.mps_read.specs.DraftKinds.{values_use, has_value as has_value_of};
-ghost use Rattle.mps_read.specs.DraftRows.{with_marked, with_value, with_constant};
+ghost use Rattle.mps_read.specs.DraftRows.{with_marked_state, with_value, with_constant};
 ghost use Rattle.mps_lines.specs.FieldWords.{field_words, pair_words, AreFields, IsField, IsPair};
 ghost use Rattle.mps_read.specs.Drafts.{IsDraft, IsPlaced};
 ghost use Rattle.mps_read.specs.Judges.{Judges};
 
-use crate::draft::{Draft, Judgement, RowPlace, RowState, SetUse};
+use crate::draft::{Draft, Judgement, RowPlace, RowState};
 use crate::error::MpsKind;
-use crate::name::{is_long, name_of};
+use crate::found_row::{FoundRow, find_row, is_same_row, is_tested};
+use crate::name::is_long;
 use crate::numeral::read_numeral;
-use crate::pair::{FoundRow, find_row, is_same_row, is_tested};
+use crate::sets::{is_used, name_set};
 use ip_core::{Decimal, OutOfMemory};
-use mps_lines::{FieldPair, Fields, ValueKind, is_word};
+use mps_lines::{FieldPair, Fields, ValueKind};
 use std::alloc::Global;
-
-/// Whether a line of this set is used: the first data line of a section names its set.
-pub fn is_used(first: &SetUse, set: &[u8]) -> bool
-    ensures { result ≡ is_used_set first.now.set set.now }
-{
-    match &first.set {
-        None => true,
-        Some(name) => is_word(name.text().as_slice(), set),
-    }
-}
-
-/// Names the set of a section, where it has none.
-pub fn name_set(alloc: Global, first: &mut SetUse, set: &[u8]) -> Result<(), OutOfMemory>
-    requires field { IsField set.now }
-    requires short { is_long_name set.now ≡ false }
-    requires used { is_used_set first.old.set set.now ≡ true }
-    ensures { OnOk result (first.new ≡ with_set set.now first.old) }
-{
-    if first.set.is_none() {
-        first.set = Some(name_of(alloc, set)?);
-    }
-    Ok(())
-}
 
 /// Whether a line of right-hand sides or ranges of this set is used.
 fn is_used_for(draft: &Draft, kind: ValueKind, set: &[u8]) -> bool
@@ -83,7 +61,7 @@ fn has_value(kind: ValueKind, state: RowState) -> bool
 fn mark_value(draft: &mut Draft, kind: ValueKind, row: usize)
     requires { row < length draft.old.row_states }
     ensures { draft.new ≡ record draft.old
-        { row_states = with_marked kind row draft.old.row_states } }
+        { row_states = with_marked_state kind row draft.old.row_states } }
 {
     let mut state = draft.row_states.as_slice()[row];
     if is_tested(state.place) {
@@ -121,8 +99,8 @@ fn set_value(draft: &mut Draft, kind: ValueKind, place: RowPlace, value: Decimal
 /// Gives a row a right-hand side or a range.
 fn give(draft: &mut Draft, kind: ValueKind, row: FoundRow, value: Decimal)
     requires known { row.number < length draft.old.row_states }
-    requires placed { IsPlaced (length draft.old.rows) row.state.place }
-    ensures given { draft.new ≡ after_value kind row.number row.state.place value draft.old }
+    requires place { IsPlaced (length draft.old.rows) row.state.place }
+    ensures draft { draft.new ≡ after_value kind row.number row.state.place value draft.old }
     ensures states { length draft.new.row_states ≡ length draft.old.row_states }
     ensures rows { length draft.new.rows ≡ length draft.old.rows }
 {

@@ -5,9 +5,9 @@ use Rattle.mps_read.specs.Names.{is_among, place_among, with_name}
 use Rattle.mps_model.specs.Numbers.{is_zero}
 use Rattle.mps_read.specs.Numerals.{decimal_of}
 use Rattle.mps_lines.specs.Forms.{Form, Pair, Blank, Spoilt, Head, UnknownHead, Stray, Miscounted, SenseLine, FreeRow, KeptRow, UntypedRow, Marker, UnknownMarker, Entries, Values, BoundLine, UntypedBound}
-use Rattle.mps_read.specs.Sets.{is_used, first_given}
+use Rattle.mps_read.specs.Sets.{is_used, first_name}
 use Rattle.mps_model.specs.Prints.{fresh_row}
-use Rattle.mps_read.specs.DraftRows.{fresh, free_place, state_at, is_tested, with_marked, with_value, place_of_pair}
+use Rattle.mps_read.specs.DraftRows.{fresh_state, free_place, state_at, is_tested, with_marked_state, with_value, place_of_pair}
 use Rattle.mps_read.specs.DraftColumns.{fresh_column, column_at, with_entry}
 use Rattle.mps_read.specs.DraftKinds.{draft_kind, values_use, is_repeated_in}
 use Rattle.mps_read.specs.Kinds.{has_bad_numeral, has_unknown_name, is_split_column}
@@ -27,20 +27,20 @@ use Rattle.mps_read.specs.declared.draft.RowPlace.{RowPlace}
 use Rattle.mps_read.specs.declared.draft.RowPlace.TheVariants.{Objective, Dropped, Kept}
 use Rattle.mps_read.specs.declared.draft.SetUse.{SetUse}
 use Rattle.mps_lines.proofs.Truths.{by_case}
-use Rattle.mps_read.proofs.Keeping.{remade, with_marked-place, with_marked-length, with_value-length, placed-push, placed-more, latest-push, longer, tested-within}
+use Rattle.mps_read.proofs.DraftParts.{draft-with, with_marked_state-place, with_marked_state-length, with_value-length, placed-push, placed-more, latest-push, longer, tested-within}
 use Rattle.mps_read.proofs.Marks.{marked-more, latest-below}
 
 -- what holds of a draft holds after one more line
 
 head_kept : (d : Draft) → IsDraft d → (section : Section) (word : List ℕ) → IsDraft (after_head d section word)
-head_kept d is Name word = remade d is _ _ _ _ _ _ _ _ _ _ _ _ _ refl (λ row. refl) refl refl
-head_kept d is Objsense word = remade d is _ _ _ _ _ _ _ _ _ _ _ _ _ refl (λ row. refl) refl refl
-head_kept d is Rows word = remade d is _ _ _ _ _ _ _ _ _ _ _ _ _ refl (λ row. refl) refl refl
-head_kept d is Columns word = remade d is _ _ _ _ _ _ _ _ _ _ _ _ _ refl (λ row. refl) refl refl
-head_kept d is Rhs word = remade d is _ _ _ _ _ _ _ _ _ _ _ _ _ refl (λ row. refl) refl refl
-head_kept d is Ranges word = remade d is _ _ _ _ _ _ _ _ _ _ _ _ _ refl (λ row. refl) refl refl
-head_kept d is Bounds word = remade d is _ _ _ _ _ _ _ _ _ _ _ _ _ refl (λ row. refl) refl refl
-head_kept d is Endata word = remade d is _ _ _ _ _ _ _ _ _ _ _ _ _ refl (λ row. refl) refl refl
+head_kept d is Name word = draft-with d is _ _ _ _ _ _ _ _ _ _ _ _ _ refl (λ row. refl) refl refl
+head_kept d is Objsense word = draft-with d is _ _ _ _ _ _ _ _ _ _ _ _ _ refl (λ row. refl) refl refl
+head_kept d is Rows word = draft-with d is _ _ _ _ _ _ _ _ _ _ _ _ _ refl (λ row. refl) refl refl
+head_kept d is Columns word = draft-with d is _ _ _ _ _ _ _ _ _ _ _ _ _ refl (λ row. refl) refl refl
+head_kept d is Rhs word = draft-with d is _ _ _ _ _ _ _ _ _ _ _ _ _ refl (λ row. refl) refl refl
+head_kept d is Ranges word = draft-with d is _ _ _ _ _ _ _ _ _ _ _ _ _ refl (λ row. refl) refl refl
+head_kept d is Bounds word = draft-with d is _ _ _ _ _ _ _ _ _ _ _ _ _ refl (λ row. refl) refl refl
+head_kept d is Endata word = draft-with d is _ _ _ _ _ _ _ _ _ _ _ _ _ refl (λ row. refl) refl refl
 
 free_placed : (kept : ℕ) (o : Option (List ℕ)) → IsPlaced kept (free_place o)
 free_placed kept None = tt
@@ -49,35 +49,35 @@ free_placed kept (Some first) = tt
 free_kept : (d : Draft) → IsDraft d → (name : List ℕ) → IsDraft (after_free d name)
 free_kept d is name =
     by_case (is_among name d.row_names) _
-    (λ known. rw known (remade d is _ _ _ _ (first_given d.objective name) _ _ _ _ _ _ _ _ refl (λ row. refl) refl refl))
+    (λ known. rw known (draft-with d is _ _ _ _ (first_name d.objective name) _ _ _ _ _ _ _ _ refl (λ row. refl) refl refl))
     (λ new. rw new (record {
-      states = longer d.row_states (fresh (free_place d.objective)) ∙ ap (λ n. n + 1) is.states ∙ sym (longer d.row_names name);
+      states = longer d.row_states (fresh_state (free_place d.objective)) ∙ ap (λ n. n + 1) is.states ∙ sym (longer d.row_names name);
       latest = longer d.latest 0 ∙ ap (λ n. n + 1) is.latest ∙ sym (longer d.row_names name);
       cols = is.cols;
       rows = is.rows;
-      placed = placed-push d.kept d.row_states (fresh (free_place d.objective)) is.placed (free_placed d.kept d.objective);
-      marked = λ row col large. is.marked row col large ∙ ap (λ n. n == col + 1) (sym (latest-push d.latest row));
-      marked_before = λ row. subst (λ (n : ℕ). n ≤ length d.column_names) (sym (latest-push d.latest row)) (is.marked_before row);
+      places = placed-push d.kept d.row_states (fresh_state (free_place d.objective)) is.places (free_placed d.kept d.objective);
+      last_marks = λ row col large. is.last_marks row col large ∙ ap (λ n. n == col + 1) (sym (latest-push d.latest row));
+      latest_within = λ row. subst (λ (n : ℕ). n ≤ length d.column_names) (sym (latest-push d.latest row)) (is.latest_within row);
     }))
 
 row_kept : (d : Draft) → IsDraft d → (kind : RowKind) (name : List ℕ) → IsDraft (after_row d kind name)
 row_kept d is kind name =
     by_case (is_among name d.row_names) _
-    (λ known. rw known (remade d is _ _ _ _ _ _ _ _ _ _ _ _ _ refl (λ row. refl) refl refl))
+    (λ known. rw known (draft-with d is _ _ _ _ _ _ _ _ _ _ _ _ _ refl (λ row. refl) refl refl))
     (λ new. rw new (record {
-      states = longer d.row_states (fresh (Kept d.kept)) ∙ ap (λ n. n + 1) is.states ∙ sym (longer d.row_names name);
+      states = longer d.row_states (fresh_state (Kept d.kept)) ∙ ap (λ n. n + 1) is.states ∙ sym (longer d.row_names name);
       latest = longer d.latest 0 ∙ ap (λ n. n + 1) is.latest ∙ sym (longer d.row_names name);
       cols = is.cols;
       rows = longer d.rows (fresh_row kind name) ∙ ap (λ n. n + 1) is.rows;
-      placed = placed-push (d.kept + 1) d.row_states (fresh (Kept d.kept)) (λ row. placed-more d.kept _ (is.placed row)) (omega arith);
-      marked = λ row col large. is.marked row col large ∙ ap (λ n. n == col + 1) (sym (latest-push d.latest row));
-      marked_before = λ row. subst (λ (n : ℕ). n ≤ length d.column_names) (sym (latest-push d.latest row)) (is.marked_before row);
+      places = placed-push (d.kept + 1) d.row_states (fresh_state (Kept d.kept)) (λ row. placed-more d.kept _ (is.places row)) (omega arith);
+      last_marks = λ row col large. is.last_marks row col large ∙ ap (λ n. n == col + 1) (sym (latest-push d.latest row));
+      latest_within = λ row. subst (λ (n : ℕ). n ≤ length d.column_names) (sym (latest-push d.latest row)) (is.latest_within row);
     }))
 
 begun_kept : (d : Draft) → IsDraft d → (column : List ℕ) → IsDraft (after_column d column)
 begun_kept d is column =
     by_case (is_among column d.column_names) _
-    (λ known. rw known (remade d is _ _ _ _ _ _ _ _ _ _ _ _ _ refl (λ row. refl) refl refl))
+    (λ known. rw known (draft-with d is _ _ _ _ _ _ _ _ _ _ _ _ _ refl (λ row. refl) refl refl))
     (λ new.
     let more : length (d.column_names ++ column ∷ []) ≡ length d.column_names + 1 = longer d.column_names column in
     rw new (record {
@@ -85,9 +85,9 @@ begun_kept d is column =
       latest = is.latest;
       cols = longer d.cols (fresh_column d.is_integer column) ∙ ap (λ n. n + 1) is.cols ∙ sym more;
       rows = is.rows;
-      placed = is.placed;
-      marked = λ row col large. is.marked row col (omega (arith, large, more));
-      marked_before = λ row. omega (arith, is.marked_before row, more);
+      places = is.places;
+      last_marks = λ row col large. is.last_marks row col (omega (arith, large, more));
+      latest_within = λ row. omega (arith, is.latest_within row, more);
     }))
 
 set_if-length : {A : Type 0} (b : Bool) (xs : List A) (i : ℕ) (x : A) → length (if b then xs else slice_set xs i x) ≡ length xs
@@ -95,36 +95,36 @@ set_if-length true xs i x = refl
 set_if-length false xs i x = length-set xs i x
 
 entered_kept : (d : Draft) → IsDraft d → (row : ℕ) (place : RowPlace) (col : ℕ) (value : Number) → col + 1 ≡ length d.column_names → (is_tested place ≡ true → row < length d.row_names) → IsDraft (after_entry row place col value d)
-entered_kept d is row Dropped col value last within = remade d is _ _ _ _ _ _ _ _ _ _ _ _ _ refl (λ r. refl) refl refl
+entered_kept d is row Dropped col value last within = draft-with d is _ _ _ _ _ _ _ _ _ _ _ _ _ refl (λ r. refl) refl refl
 entered_kept d is row Objective col value last within = record {
   states = is.states;
   latest = length-set d.latest row (col + 1) ∙ is.latest;
   cols = length-set d.cols col _ ∙ is.cols;
   rows = is.rows;
-  placed = is.placed;
-  marked = marked-more d.latest d.marks row col (length d.column_names) (omega (arith, within refl, is.latest)) last is.marked is.marked_before;
-  marked_before = λ r. latest-below d.latest row (col + 1) (length d.column_names) r (omega (arith, last)) is.marked_before;
+  places = is.places;
+  last_marks = marked-more d.latest d.marks row col (length d.column_names) (omega (arith, within refl, is.latest)) last is.last_marks is.latest_within;
+  latest_within = λ r. latest-below d.latest row (col + 1) (length d.column_names) r (omega (arith, last)) is.latest_within;
 }
 entered_kept d is row (Kept k) col value last within = record {
   states = is.states;
   latest = length-set d.latest row (col + 1) ∙ is.latest;
   cols = set_if-length (is_zero value) d.cols col (with_entry k value (column_at d.cols col)) ∙ is.cols;
   rows = is.rows;
-  placed = is.placed;
-  marked = marked-more d.latest d.marks row col (length d.column_names) (omega (arith, within refl, is.latest)) last is.marked is.marked_before;
-  marked_before = λ r. latest-below d.latest row (col + 1) (length d.column_names) r (omega (arith, last)) is.marked_before;
+  places = is.places;
+  last_marks = marked-more d.latest d.marks row col (length d.column_names) (omega (arith, within refl, is.latest)) last is.last_marks is.latest_within;
+  latest_within = λ r. latest-below d.latest row (col + 1) (length d.column_names) r (omega (arith, last)) is.latest_within;
 }
 
 given_kept : (d : Draft) → IsDraft d → (kind : ValueKind) (row : ℕ) (place : RowPlace) (value : Number) → IsDraft (after_value kind row place value d)
 given_kept d is kind row place value =
-    remade d is _ _ _ _ _ _ _ _ _ _ (with_marked kind row d.row_states) (with_value kind place value d.rows) _ (with_marked-length kind row d.row_states) (with_marked-place kind row d.row_states) (with_value-length kind place value d.rows) refl
+    draft-with d is _ _ _ _ _ _ _ _ _ _ (with_marked_state kind row d.row_states) (with_value kind place value d.rows) _ (with_marked_state-length kind row d.row_states) (with_marked_state-place kind row d.row_states) (with_value-length kind place value d.rows) refl
 
 set_kept : (d : Draft) → IsDraft d → (kind : ValueKind) (set : List ℕ) → IsDraft (with_values_set kind set d)
-set_kept d is Side set = remade d is _ _ _ _ _ _ _ _ _ _ _ _ _ refl (λ row. refl) refl refl
-set_kept d is Range set = remade d is _ _ _ _ _ _ _ _ _ _ _ _ _ refl (λ row. refl) refl refl
+set_kept d is Side set = draft-with d is _ _ _ _ _ _ _ _ _ _ _ _ _ refl (λ row. refl) refl refl
+set_kept d is Range set = draft-with d is _ _ _ _ _ _ _ _ _ _ _ _ _ refl (λ row. refl) refl refl
 
 bound_kept : (d : Draft) → IsDraft d → (col : ℕ) (c : MpsCol) (bounds : SetUse) → IsDraft (record d { cols = slice_set d.cols col c; bounds = bounds })
-bound_kept d is col c bounds = remade d is _ _ _ _ _ _ _ _ _ _ _ _ (slice_set d.cols col c) refl (λ row. refl) refl (length-set d.cols col c)
+bound_kept d is col c bounds = draft-with d is _ _ _ _ _ _ _ _ _ _ _ _ (slice_set d.cols col c) refl (λ row. refl) refl (length-set d.cols col c)
 
 fourth_fails : {A : Type 0} (a b c e : Bool) (x y z w : A) (r : Option A) → (if a then Some x else if b then Some y else if c then Some z else if e then Some w else r) ≡ None → e ≡ false
 fourth_fails true b c e x y z w r h = cc
@@ -186,11 +186,11 @@ after_kept d (Head section word) is h = head_kept d is section word
 after_kept d UnknownHead is h = is
 after_kept d Stray is h = is
 after_kept d Miscounted is h = is
-after_kept d (SenseLine word) is h = remade d is _ _ _ _ _ _ _ _ _ _ _ _ _ refl (λ row. refl) refl refl
+after_kept d (SenseLine word) is h = draft-with d is _ _ _ _ _ _ _ _ _ _ _ _ _ refl (λ row. refl) refl refl
 after_kept d (FreeRow name) is h = free_kept d is name
 after_kept d (KeptRow kind name) is h = row_kept d is kind name
 after_kept d UntypedRow is h = is
-after_kept d (Marker is_integer) is h = remade d is _ _ _ _ _ _ _ _ _ _ _ _ _ refl (λ row. refl) refl refl
+after_kept d (Marker is_integer) is h = draft-with d is _ _ _ _ _ _ _ _ _ _ _ _ _ refl (λ row. refl) refl refl
 after_kept d UnknownMarker is h = is
 after_kept d (Entries column first second) is h =
     let f : Form = Entries column first second in
@@ -264,7 +264,7 @@ first_kept d is = rw is (record {
   latest = refl;
   cols = refl;
   rows = refl;
-  placed = λ row. tt;
-  marked = λ row col large. not_zero col;
-  marked_before = λ row. omega arith;
+  places = λ row. tt;
+  last_marks = λ row col large. not_zero col;
+  latest_within = λ row. omega arith;
 })

@@ -1,28 +1,11 @@
-use Rattle.std.specs.Prelude.{ℕ, ◌≡◌, true, false, [], ◌∷◌, Some, None, refl, codes, ℤ, pos, negsuc}
-use Rattle.ip_core.specs.Decimals.{Number}
+use Rattle.std.specs.Prelude.{◌≡◌, true, false, [], ◌∷◌, Some, None, refl, codes, pos, negsuc}
+use Rattle.mps_model.proofs.WorkedRows.{decimal, digit, one_column-model}
 use Rattle.mps_read.specs.Readings.{reading, Read}
 use Rattle.mps_model.specs.declared.model.MpsModel.{MpsModel}
 use Rattle.mps_model.specs.declared.model.RowKind.TheVariants.{Less, Greater, Equal}
 use Rattle.mps_model.specs.declared.model.Limit.TheVariants.{Unset, Free, At}
 
 -- small files with the models that they are
-
-abbrev decimal : ℤ → ℤ → Number
-decimal mantissa exponent = record { mantissa = mantissa; exponent = exponent }
-
--- a whole number below ten
-abbrev digit : ℕ → Number
-digit n = decimal (pos n) (pos 0)
-
-abbrev one_column-model : MpsModel
-one_column-model = record {
-  name = codes "one";
-  maximise = false;
-  objective = codes "c";
-  constant = digit 0;
-  rows = [];
-  cols = record { name = codes "x"; integer = true; cost = digit 1; entries = []; low = Unset; high = At (digit 1) } ∷ [];
-}
 
 pub one_column : reading (codes "NAME one\nROWS\n N c\nCOLUMNS\n M 'MARKER' 'INTORG'\n x c 1\nBOUNDS\n UP b x 1\nENDATA\n") ≡ Read one_column-model
 one_column = refl

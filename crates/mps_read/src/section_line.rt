@@ -136,7 +136,8 @@ pub fn take_head(
     fields: Fields<'_>,
 ) -> Result<Judgement, OutOfMemory>
     requires { AreFields (field_words fields) }
-    ensures { IfOk result (λ j. Judges j draft.old (head_form (field_words fields.entry)) draft.new) }
+    ensures { IfOk result (λ j. Judges j draft.old
+        (head_form (field_words fields.entry)) draft.new) }
 {
     let Some(section) = section_named(fields.first()) else {
         return Ok(Judgement::Refused(MpsKind::UnknownSection));

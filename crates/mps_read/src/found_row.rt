@@ -14,7 +14,7 @@ pub struct FoundRow {
 /// The row of a name, or None where it isn't known.
 pub fn find_row(draft: &Draft, name: &[u8]) -> Option<FoundRow>
     requires { length draft.now.row_states ≡ length draft.now.row_names }
-    ensures found { MatchOption result (is_among name.now draft.now.row_names ≡ false)
+    ensures row { MatchOption result (is_among name.now draft.now.row_names ≡ false)
         (λ r. (is_among name.now draft.now.row_names ≡ true)
         × (r.number ≡ place_among name.now draft.now.row_names)
         × (r.state ≡ state_at draft.now.row_states r.number)) }

@@ -1,7 +1,7 @@
 use Rattle.std.proofs.Common.{◌≡◌, ◌∙◌, ℕ, zero, suc, ◌+◌, ◌<◌, Bool, true, false, List, [], ◌∷◌, ◌++◌, length, Option, refl, sym, arith, subst, if◌then◌else◌}
 use Rattle.std.proofs.lemmas.List.{length-append, length-set}
 use Rattle.ip_core.specs.Decimals.{Number}
-use Rattle.mps_read.specs.DraftRows.{state_at, is_tested, with_value_mark, marked_state, with_marked, with_value}
+use Rattle.mps_read.specs.DraftRows.{state_at, is_tested, with_value_mark, marked_state, with_marked_state, with_value}
 use Rattle.mps_read.specs.Drafts.{IsDraft, IsPlaced, latest_at}
 use Rattle.mps_model.specs.declared.model.MpsRow.{MpsRow}
 use Rattle.mps_model.specs.declared.model.MpsCol.{MpsCol}
@@ -15,15 +15,15 @@ use Rattle.mps_read.specs.declared.draft.RowState.{RowState}
 use Rattle.mps_read.specs.declared.draft.SetUse.{SetUse}
 
 -- what holds of a draft doesn't stand on the header, the sets and the numbers
-pub remade : (d : Draft) → IsDraft d → (section : Option Section) (sense : Bool) (name : List ℕ) (maximise : Option Bool) (objective : Option (List ℕ)) (integer : Bool) (constant : Number) (rhs ranges bounds : SetUse) (states : List RowState) (rows : List MpsRow) (cols : List MpsCol) → length states ≡ length d.row_states → ((row : ℕ) → (state_at states row).place ≡ (state_at d.row_states row).place) → length rows ≡ length d.rows → length cols ≡ length d.cols → IsDraft (record d { section = section; has_sense_line = sense; name = name; maximise = maximise; objective = objective; is_integer = integer; constant = constant; rhs = rhs; ranges = ranges; bounds = bounds; row_states = states; rows = rows; cols = cols })
-remade d is section sense name maximise objective integer constant rhs ranges bounds states rows cols same_states same_places same_rows same_cols = record {
+pub draft-with : (d : Draft) → IsDraft d → (section : Option Section) (sense : Bool) (name : List ℕ) (maximise : Option Bool) (objective : Option (List ℕ)) (integer : Bool) (constant : Number) (rhs ranges bounds : SetUse) (states : List RowState) (rows : List MpsRow) (cols : List MpsCol) → length states ≡ length d.row_states → ((row : ℕ) → (state_at states row).place ≡ (state_at d.row_states row).place) → length rows ≡ length d.rows → length cols ≡ length d.cols → IsDraft (record d { section = section; has_sense_line = sense; name = name; maximise = maximise; objective = objective; is_integer = integer; constant = constant; rhs = rhs; ranges = ranges; bounds = bounds; row_states = states; rows = rows; cols = cols })
+draft-with d is section sense name maximise objective integer constant rhs ranges bounds states rows cols same_states same_places same_rows same_cols = record {
   states = same_states ∙ is.states;
   latest = is.latest;
   cols = same_cols ∙ is.cols;
   rows = same_rows ∙ is.rows;
-  placed = λ row. subst (IsPlaced d.kept) (sym (same_places row)) (is.placed row);
-  marked = is.marked;
-  marked_before = is.marked_before;
+  places = λ row. subst (IsPlaced d.kept) (sym (same_places row)) (is.places row);
+  last_marks = is.last_marks;
+  latest_within = is.latest_within;
 }
 
 -- a value keeps what a row's name stands for
@@ -35,15 +35,15 @@ marked-by false kind s = refl
 marked-place : (kind : ValueKind) (s : RowState) → (marked_state kind s).place ≡ s.place
 marked-place kind s = marked-by (is_tested s.place) kind s
 
-pub with_marked-place : (kind : ValueKind) (n : ℕ) (states : List RowState) (row : ℕ) → (state_at (with_marked kind n states) row).place ≡ (state_at states row).place
-with_marked-place kind n [] row = refl
-with_marked-place kind zero (s ∷ states) zero = marked-place kind s
-with_marked-place kind zero (s ∷ states) (suc row) = refl
-with_marked-place kind (suc n) (s ∷ states) zero = refl
-with_marked-place kind (suc n) (s ∷ states) (suc row) = with_marked-place kind n states row
+pub with_marked_state-place : (kind : ValueKind) (n : ℕ) (states : List RowState) (row : ℕ) → (state_at (with_marked_state kind n states) row).place ≡ (state_at states row).place
+with_marked_state-place kind n [] row = refl
+with_marked_state-place kind zero (s ∷ states) zero = marked-place kind s
+with_marked_state-place kind zero (s ∷ states) (suc row) = refl
+with_marked_state-place kind (suc n) (s ∷ states) zero = refl
+with_marked_state-place kind (suc n) (s ∷ states) (suc row) = with_marked_state-place kind n states row
 
-pub with_marked-length : (kind : ValueKind) (n : ℕ) (states : List RowState) → length (with_marked kind n states) ≡ length states
-with_marked-length kind n states = length-set states n (marked_state kind (state_at states n))
+pub with_marked_state-length : (kind : ValueKind) (n : ℕ) (states : List RowState) → length (with_marked_state kind n states) ≡ length states
+with_marked_state-length kind n states = length-set states n (marked_state kind (state_at states n))
 
 pub with_value-length : (kind : ValueKind) (place : RowPlace) (value : Number) (rows : List MpsRow) → length (with_value kind place value rows) ≡ length rows
 with_value-length kind Objective value rows = refl

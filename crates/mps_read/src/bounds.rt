@@ -13,7 +13,7 @@ use crate::draft::{Draft, Judgement};
 use crate::error::MpsKind;
 use crate::name::is_long;
 use crate::numeral::{is_infinite, one};
-use crate::value::{is_used, name_set};
+use crate::sets::{is_used, name_set};
 use ip_core::{Decimal, List, OutOfMemory};
 use mps_lines::{BoundKind, Fields, bound_named, has_numeral};
 use mps_model::{Limit, MpsCol};

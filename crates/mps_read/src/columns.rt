@@ -10,9 +10,9 @@ ghost use Rattle.mps_read.specs.Judges.{Judges};
 
 use crate::draft::{Draft, Judgement, Mark, RowPlace};
 use crate::error::MpsKind;
+use crate::found_row::{FoundRow, find_row, is_same_row};
 use crate::name::{is_long, name_of};
 use crate::numeral::{is_zero, read_numeral};
-use crate::pair::{FoundRow, find_row, is_same_row};
 use ip_core::{Decimal, List, OutOfMemory};
 use mps_lines::{FieldPair, Fields, is_word};
 use mps_model::{Limit, MpsCol, MpsEntry};

@@ -1,21 +1,21 @@
 use Rattle.std.specs.Prelude.{ℕ, ◌≡◌, true, false, [], ◌∷◌, Some, None, refl, codes, ℤ, pos, negsuc}
 use Rattle.std.specs.Fmt.{digits}
 use Rattle.ip_core.specs.Decimals.{Number}
-use Rattle.mps_model.specs.Prints.{printed}
+use Rattle.mps_model.specs.Prints.{canonical_text}
 use Rattle.mps_model.specs.declared.model.MpsModel.{MpsModel}
 use Rattle.mps_model.specs.declared.model.RowKind.TheVariants.{Less, Greater, Equal}
 use Rattle.mps_model.specs.declared.model.Limit.TheVariants.{Unset, Free, At}
 
 -- small models with their texts
 
-abbrev decimal : ℤ → ℤ → Number
+abbrev pub decimal : ℤ → ℤ → Number
 decimal mantissa exponent = record { mantissa = mantissa; exponent = exponent }
 
 -- a whole number below ten
-abbrev digit : ℕ → Number
+abbrev pub digit : ℕ → Number
 digit n = decimal (pos n) (pos 0)
 
-abbrev one_column-model : MpsModel
+abbrev pub one_column-model : MpsModel
 one_column-model = record {
   name = codes "one";
   maximise = false;
@@ -25,7 +25,7 @@ one_column-model = record {
   cols = record { name = codes "x"; integer = true; cost = digit 1; entries = []; low = Unset; high = At (digit 1) } ∷ [];
 }
 
-pub one_column : printed one_column-model ≡ codes "NAME one\nROWS\n N c\nCOLUMNS\n M 'MARKER' 'INTORG'\n x c 1\n M 'MARKER' 'INTEND'\nBOUNDS\n UP BND x 1\nENDATA\n"
+pub one_column : canonical_text one_column-model ≡ codes "NAME one\nROWS\n N c\nCOLUMNS\n M 'MARKER' 'INTORG'\n x c 1\n M 'MARKER' 'INTEND'\nBOUNDS\n UP BND x 1\nENDATA\n"
 unfolding digits
 one_column = refl
 
@@ -33,7 +33,7 @@ abbrev empty-model : MpsModel
 empty-model = record { name = []; maximise = false; objective = codes "OBJ"; constant = digit 0; rows = []; cols = [] }
 
 -- no name, no columns, and no section that would be empty
-pub empty : printed empty-model ≡ codes "ROWS\n N OBJ\nCOLUMNS\nENDATA\n"
+pub empty : canonical_text empty-model ≡ codes "ROWS\n N OBJ\nCOLUMNS\nENDATA\n"
 empty = refl
 
 abbrev sides-model : MpsModel
@@ -57,6 +57,6 @@ sides-model = record {
 
 -- a maximised model: a zero range stays and a zero side goes, an empty column has its zero cost, and each run of integer
 -- columns has its markers
-pub sides : printed sides-model ≡ codes "OBJSENSE\n MAX\nROWS\n N OBJ\n L a\n G b\n E d\nCOLUMNS\n M 'MARKER' 'INTORG'\n x OBJ 0\n y d 7\n y a 0.01\n M 'MARKER' 'INTEND'\n z OBJ 2\n z b 3\n M 'MARKER' 'INTORG'\n w OBJ 1\n M 'MARKER' 'INTEND'\nRHS\n RHS OBJ 12\n RHS b 1.5\n RHS d -3e4\nRANGES\n RNG a 0\n RNG d -1\nBOUNDS\n MI BND x\n PL BND x\n LO BND y -2\n LO BND z 0\n UP BND z 9\nENDATA\n"
+pub sides : canonical_text sides-model ≡ codes "OBJSENSE\n MAX\nROWS\n N OBJ\n L a\n G b\n E d\nCOLUMNS\n M 'MARKER' 'INTORG'\n x OBJ 0\n y d 7\n y a 0.01\n M 'MARKER' 'INTEND'\n z OBJ 2\n z b 3\n M 'MARKER' 'INTORG'\n w OBJ 1\n M 'MARKER' 'INTEND'\nRHS\n RHS OBJ 12\n RHS b 1.5\n RHS d -3e4\nRANGES\n RNG a 0\n RNG d -1\nBOUNDS\n MI BND x\n PL BND x\n LO BND y -2\n LO BND z 0\n UP BND z 9\nENDATA\n"
 unfolding digits
 sides = refl
