@@ -171,11 +171,11 @@ item_written (Ok e) count kind stamp more r each three within is p =
     let few : count - 3 ≤ length more = omega arith in
     let long : length (take (count - 3) more) ≡ count - 3 = length-take-le (count - 3) more few in
     let size : 3 + length (further_words e) ≡ count = omega (arith, ap length w.further, long) in
-    let same : record { item = record { stamp = stamp; entry = e }; word_count = count } ≡ r = cc in
+    let same : record { item = record { stamp = stamp; entry = e }; used = count } ≡ r = cc in
     subst (λ (x : WordRead). HasWordsInFront (count ∷ kind ∷ stamp ∷ more) x) same (record {
       rest = drop (count - 3) more;
       whole = whole_written count kind stamp more e size w.kind w.further;
-      word_count = omega arith;
+      used = omega arith;
     })
 
 nothing_begins : (ws : List ℕ) (x : WordsError) (r : WordRead) → ◌≡◌ {A = Result WordRead WordsError} (Err x) (Ok r) → HasWordsInFront ws r
@@ -201,7 +201,7 @@ no_words_begin_others a b rest ha hb e =
     let first = reads_again a rest ha in
     let second = reads_again b [] hb in
     let again : words b ++ [] ≡ words a ++ rest = append-nil (words b) ∙ e in
-    let same : ◌≡◌ {A = Result WordRead WordsError} (Ok (record { item = a; word_count = length (words a) })) (Ok (record { item = b; word_count = length (words b) })) = sym first ∙ (ap read (sym again) ∙ second) in
-    let size : length (words a) ≡ length (words b) = ap (λ (r : WordRead). r.word_count) (ok_same _ _ same) in
+    let same : ◌≡◌ {A = Result WordRead WordsError} (Ok (record { item = a; used = length (words a) })) (Ok (record { item = b; used = length (words b) })) = sym first ∙ (ap read (sym again) ∙ second) in
+    let size : length (words a) ≡ length (words b) = ap (λ (r : WordRead). r.used) (ok_same _ _ same) in
     let none : length rest ≡ 0 = omega (arith, ap length e, length-append (words a) rest, size) in
     nil_from_length rest none

@@ -117,4 +117,4 @@ reads_again item rest h =
     if_false _ _ _ long ∙ (if_false _ _ _ three
     ∙ (ap (λ (g : List ℕ). read_with (3 + length f) item.stamp (kind_entry (kind_of (kind_word item.entry)) g)) (front_read f rest)
     ∙ (ap (λ (e : Result Entry WordsError). read_with (3 + length f) item.stamp e) (entry_read item.entry h)
-    ∙ ap (λ (n : ℕ). Ok (record { item = item; word_count = n })) total)))
+    ∙ ap (λ (n : ℕ). Ok (record { item = item; used = n })) total)))

@@ -19,7 +19,7 @@ at stamp e = words (record { stamp = stamp; entry = e })
 
 -- an entry read at a stamp from so many words
 abbrev gives : ℕ → Entry → ℕ → Result WordRead WordsError
-gives stamp e word_count = Ok (record { item = record { stamp = stamp; entry = e }; word_count = word_count })
+gives stamp e used = Ok (record { item = record { stamp = stamp; entry = e }; used = used })
 
 abbrev refusal : WordsError → Result WordRead WordsError
 refusal e = Err e

@@ -127,7 +127,7 @@ kind_entry (Err e) further = Err e
 -- what was read, with its stamp and its number of words
 abbrev pub read_with : ℕ → ℕ → Result Entry WordsError → Result WordRead WordsError
 read_with count stamp (Ok e) = Ok (record
-    { item = record { stamp = stamp; entry = e }; word_count = count })
+    { item = record { stamp = stamp; entry = e }; used = count })
 read_with count stamp (Err e) = Err e
 
 -- an entry of so many words, from the words behind the first one

@@ -9,7 +9,7 @@ use Rattle.ip_core.specs.declared.row_ref.RowRef.{RowRef}
 use Rattle.ip_core.specs.declared.row_ref.RowRef.TheVariants as row
 use Rattle.work_stamp.specs.declared.entry.Entry.{Entry}
 use Rattle.work_stamp.specs.declared.entry.Entry.TheVariants.{Start, CutStart, HeurStart, Done, Found, Cut, Split, Closed, Halt}
-use Rattle.work_stamp.specs.declared.stamped.StampedEntry.{StampedEntry}
+use Rattle.work_stamp.specs.declared.stamped.Stamped.{Stamped}
 
 -- a signed number in two's complement
 abbrev pub signed_word : ℤ → ℕ
@@ -61,6 +61,6 @@ further_words (Closed node) = node ∷ []
 further_words Halt = []
 
 -- the words of an entry with its stamp
-abbrev pub words : StampedEntry → List ℕ
+abbrev pub words : Stamped → List ℕ
 words item = (3 + length (further_words item.entry)) ∷ kind_word item.entry ∷ item.stamp ∷
     further_words item.entry

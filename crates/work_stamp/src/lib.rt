@@ -26,7 +26,7 @@ pub use laws::{no_words_begin_others, only_words_are_read, words_are_read_again}
 pub use no_pulse::NoPulse;
 pub use pulse::Pulse;
 pub use read::read_words;
-pub use stamped::{KeyedEntry, StampedEntry, WordRead};
+pub use stamped::{KeyedEntry, Stamped, WordRead};
 pub use task::{Begin, Chunk};
 pub use tasker::Tasker;
 pub use write::to_words;

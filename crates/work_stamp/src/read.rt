@@ -5,7 +5,7 @@ ghost use Rattle.work_stamp.specs.Writable.{IsShort};
 ghost use Rattle.work_stamp.specs.declared.kind.Kind.TheVariants.{Found, Split};
 
 use crate::kind::{Kind, kind_of};
-use crate::{Entry, StampedEntry, WordRead, WordsError};
+use crate::{Entry, Stamped, WordRead, WordsError};
 use ip_core::{Derivation, List, OutOfMemory, Pair, Point, RowRef};
 use std::alloc::Global;
 
@@ -41,11 +41,11 @@ fn read_by_count(alloc: Global, count: u32, rest: &[u64]) -> Result<WordRead, Wo
             let further = &words[..count as usize - 3];
             let entry = read_entry(alloc, kind, further)?;
             Ok(WordRead {
-                item: StampedEntry {
+                item: Stamped {
                     stamp: *stamp,
                     entry,
                 },
-                word_count: count,
+                used: count,
             })
         }
         _ => Err(WordsError::Short),

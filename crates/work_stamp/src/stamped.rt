@@ -2,7 +2,7 @@ use crate::{Entry, Key};
 
 /// An entry with its stamp, the slot's count of work when it was published.
 #[derive(Debug, Drop)]
-pub struct StampedEntry {
+pub struct Stamped {
     pub stamp: u64,
     pub entry: Entry,
 }
@@ -17,6 +17,6 @@ pub struct KeyedEntry {
 /// What was read from the front of a list of words, and the number of the words that it took.
 #[derive(Debug, Drop)]
 pub struct WordRead {
-    pub item: StampedEntry,
-    pub word_count: u32,
+    pub item: Stamped,
+    pub used: u32,
 }

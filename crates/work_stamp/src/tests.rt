@@ -66,7 +66,7 @@ const LOW_SPLIT: Entry = Entry::Split {
 fn goes_both_ways(alloc: Global, stamp: u64, entry: Entry, words: &[u64]) -> Result<bool, Fail>
     requires { IsWritable entry }
 {
-    let item = StampedEntry { stamp, entry };
+    let item = Stamped { stamp, entry };
     let mut out = List::new(alloc);
     out.push(100)?;
     to_words(&item, &mut out)?;
@@ -83,7 +83,7 @@ fn goes_both_ways(alloc: Global, stamp: u64, entry: Entry, words: &[u64]) -> Res
     let read = read_words(alloc, &list[1..])?;
     let again = format!(in alloc; "{:?}", read.item)?;
     let given = format!(in alloc; "{:?}", item)?;
-    Ok(read.word_count as usize == words.len() && again.as_str() == given.as_str())
+    Ok(read.used as usize == words.len() && again.as_str() == given.as_str())
 }
 
 #[test]

@@ -3,12 +3,12 @@ ghost use Rattle.work_stamp.specs.Appends.{HasAppended};
 ghost use Rattle.work_stamp.specs.Words.{derivation_words, further_words, kind_word as kind_word_of, pair_words, row_word as row_word_of, signed_words, words as words_of};
 ghost use Rattle.work_stamp.specs.Writable.{IsShort, IsWritable, IsWritableDerivation};
 
-use crate::{Entry, StampedEntry};
+use crate::{Entry, Stamped};
 use ip_core::{Derivation, List, OutOfMemory, Pair, RowRef};
 
 /// Appends the words of an entry with its stamp: the number of words, the entry's kind, the stamp, and what the kind asks
 /// for. The `keep` of a split is at most 2. After a refusal `out` is as before.
-pub fn to_words(item: &StampedEntry, out: &mut List<u64>) -> Result<(), OutOfMemory>
+pub fn to_words(item: &Stamped, out: &mut List<u64>) -> Result<(), OutOfMemory>
     requires { IsWritable item.now.entry }
     ensures ok { OnOk result (out.new ≡ out.old ++ words_of item.now) }
     ensures err { OnErr result (out.new ≡ out.old) }
@@ -22,7 +22,7 @@ pub fn to_words(item: &StampedEntry, out: &mut List<u64>) -> Result<(), OutOfMem
 }
 
 #[tactic(auto, using(crate::proofs::Fronts::front_after, crate::proofs::Fronts::front_trans))]
-fn push_item(item: &StampedEntry, out: &mut List<u64>) -> Result<(), OutOfMemory>
+fn push_item(item: &Stamped, out: &mut List<u64>) -> Result<(), OutOfMemory>
     requires { IsWritable item.now.entry }
     ensures { HasAppended result (words_of item.now) out.old out.new }
 {
