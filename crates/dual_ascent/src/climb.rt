@@ -48,8 +48,8 @@ pub fn final_climb<P: Pulse>(
     ensures value { IfOk result (λ c. climb_of c ≡ ascent model.now cuts.now bounds.now) }
     ensures kept { IfOk result (λ c. IsKept model.now cuts.now bounds.now c.kept) }
     ensures few { IfOk result (λ c. c.rounds ≤ 64) }
-    ensures told { IfOk result (λ c.
-        P.allowance pulse.new + c.rounds * round_work_of model.now cuts.now ≡ P.allowance pulse.old) }
+    ensures told { IfOk result (λ c. P.allowance pulse.new
+        + c.rounds * round_work_of model.now cuts.now ≡ P.allowance pulse.old) }
     ensures untold { OnErr result (P.allowance pulse.new ≡ P.allowance pulse.old) }
     ensures rest { P.rest pulse.new ≡ P.rest pulse.old }
     ensures ready { P.IsReady pulse.new }

@@ -69,14 +69,14 @@ impl Reduced {
     }
 
     /// The multipliers alone. It takes no memory.
-    pub fn into_mults(self) -> List<u64>
+    pub(crate) fn into_mults(self) -> List<u64>
         ensures { result ≡ self.mults }
     {
         self.mults
     }
 
     /// The numerator of the multipliers.
-    pub fn numerator(&self) -> i128
+    pub(crate) fn numerator(&self) -> i128
         ensures { result ≡ self.now.numerator }
     {
         self.numerator
@@ -112,7 +112,7 @@ impl Reduced {
     }
 
     /// How much greater the numerator is with another multiplier of a row, and `floor` where it isn't greater by more.
-    pub fn gain(
+    pub(crate) fn gain(
         &self,
         model: &Model,
         cuts: &[Row],
@@ -145,7 +145,7 @@ impl Reduced {
     }
 
     /// What a row lacks at the ends at which the columns stand: its `least` less its activity there.
-    pub fn lack(&self, model: &Model, cuts: &[Row], bounds: &Bounds, row: usize) -> i128
+    pub(crate) fn lack(&self, model: &Model, cuts: &[Row], bounds: &Bounds, row: usize) -> i128
         requires cuts { AreCuts model.now cuts.now }
         requires within { IsWithinReach model.now.root bounds.now }
         requires kept { IsKept model.now cuts.now bounds.now self.now }
@@ -158,7 +158,7 @@ impl Reduced {
     }
 
     /// Gives a row another multiplier, whose numerator is known.
-    pub fn change(
+    pub(crate) fn change(
         &mut self,
         model: &Model,
         cuts: &[Row],

@@ -1,97 +1,66 @@
-ghost use Rattle.std.specs.Prelude.{◌≡◌, ◌≤◌, ◌^◌};
-ghost use Rattle.ip_core.specs.Models.{term_count};
-ghost use Rattle.safe_bound.specs.Premises.{AreCuts};
+ghost use Rattle.std.specs.Prelude.{◌≡◌, ◌^◌};
 
 use crate::*;
-use ip_core::{Bounds, List, Model, ModelParts, Name, OutOfMemory, Row, Term, Text};
+use ip_core::dense::{DenseModel, DenseRow};
+use ip_core::{Model, OutOfMemory};
 use safe_bound::MAX_MULTIPLIER;
 use std::alloc::Global;
 use std::test::Fail;
 use work_stamp::{NoPulse, Pulse};
 
-/// A model in plain numbers: costs, the two sides of the root box, and rows with a coefficient for each column.
-#[derive(Clone, Copy)]
-struct Plain<'a> {
-    costs: &'a [i64],
-    lows: &'a [i64],
-    highs: &'a [i64],
-    rows: &'a [(&'a [i64], i64)],
-}
-
-fn text(alloc: Global, bytes: &[u8]) -> Result<Text, OutOfMemory> {
-    let mut text = Text::new(alloc);
-    text.extend(bytes)?;
-    Ok(text)
-}
-
-fn rows(alloc: Global, plain: &[(&[i64], i64)]) -> Result<List<Row>, OutOfMemory> {
-    let mut rows = List::new(alloc);
-    for &(coefs, least) in plain {
-        let mut terms = List::new(alloc);
-        let mut col = 0u32;
-        for &coef in coefs {
-            if coef != 0 {
-                terms.push(Term { col, coef })?;
-            }
-            col = col.wrapping_add(1);
-        }
-        rows.push(Row { terms, least })?;
-    }
-    Ok(rows)
-}
-
-fn model(alloc: Global, plain: Plain) -> Result<Model, Fail> {
-    if plain.lows.len() > 9 {
-        return Err("too many columns".into());
-    }
-    let mut cols = List::new(alloc);
-    for _ in plain.costs {
-        cols.push(Name::of(text(alloc, b"x")?).ok_or("a name")?)?;
-    }
-    let lows = List::of(Vec::from_slice(alloc, plain.lows)?);
-    let highs = List::of(Vec::from_slice(alloc, plain.highs)?);
-    let parts = ModelParts {
-        name: Name::of(text(alloc, b"T")?).ok_or("a name")?,
-        cols,
-        costs: List::of(Vec::from_slice(alloc, plain.costs)?),
-        constant: 0,
-        decimals: 0,
-        maximise: false,
-        root: Bounds::of(lows, highs).ok_or("a box")?,
-        rows: rows(alloc, plain.rows)?,
-    };
-    Ok(Model::of(parts).ok_or("a model")?)
+/// The model of a dense model, without a contract.
+fn model_of(alloc: Global, dense: &DenseModel) -> Result<Option<Model>, OutOfMemory> {
+    dense.build(alloc)
 }
 
 /// The ascent over the root box.
 #[tactic(auto, using(crate::proofs::AscentWork::ascent_work_allowed))]
-fn ascent_of(alloc: Global, model: &Model, cuts: &[Row]) -> Result<Ascent, OutOfMemory>
-    requires cuts { AreCuts model.now cuts.now }
-    requires few { term_count cuts.now ≤ 65536 }
-{
+fn ascent_alone(alloc: Global, model: &Model) -> Result<Ascent, OutOfMemory> {
+    // The model's limits keep the ascent's work within the allowance.
     let _limits = model.parts();
     let mut pulse = NoPulse::new();
-    ascend(alloc, model, cuts, model.root(), &mut pulse)
+    ascend(alloc, model, &[], model.root(), &mut pulse)
 }
 
-/// Whether an ascent found these multipliers, this bound and these values, with this work.
-fn is_found(found: &Ascent, mults: &[u64], bound: i128, values: &[i64], work: u64) -> bool {
-    found.mults.as_slice() == mults
-        && found.bound == bound
-        && found.point.values() == values
-        && found.work == work
+/// The ascent over the root box, where the model's rows stand once more as cuts.
+#[tactic(auto, using(crate::proofs::AscentWork::ascent_work_allowed))]
+fn ascent_again(alloc: Global, model: &Model) -> Result<Ascent, OutOfMemory> {
+    // The model's limits keep the ascent's work within the allowance.
+    let _limits = model.parts();
+    let mut pulse = NoPulse::new();
+    ascend(alloc, model, model.rows(), model.root(), &mut pulse)
+}
+
+/// The ascent of a dense model over its root box, and None where it is no model.
+fn ascent_of(
+    alloc: Global,
+    dense: &DenseModel,
+    again: bool,
+) -> Result<Option<Ascent>, OutOfMemory> {
+    let Some(model) = model_of(alloc, dense)? else {
+        return Ok(None);
+    };
+    let found = if again {
+        ascent_again(alloc, &model)?
+    } else {
+        ascent_alone(alloc, &model)?
+    };
+    Ok(Some(found))
 }
 
 /// The least of x in 0 to 5 with 2x >= 3.
-const SINGLE: Plain<'static> = Plain {
+const SINGLE: DenseModel<'static> = DenseModel {
     costs: &[1],
     lows: &[0],
     highs: &[5],
-    rows: &[(&[2], 3)],
+    rows: &[DenseRow {
+        coefs: &[2],
+        least: 3,
+    }],
 };
 
 /// The least of x in 0 to 1.
-const NO_ROWS: Plain<'static> = Plain {
+const NO_ROWS: DenseModel<'static> = DenseModel {
     costs: &[1],
     lows: &[0],
     highs: &[1],
@@ -99,209 +68,413 @@ const NO_ROWS: Plain<'static> = Plain {
 };
 
 /// 2x + 2y + 2z = 3 in 0 to 1, without costs.
-const EVEN: Plain<'static> = Plain {
+const EVEN: DenseModel<'static> = DenseModel {
     costs: &[0, 0, 0],
     lows: &[0, 0, 0],
     highs: &[1, 1, 1],
-    rows: &[(&[2, 2, 2], 3), (&[-2, -2, -2], -3)],
+    rows: &[
+        DenseRow {
+            coefs: &[2, 2, 2],
+            least: 3,
+        },
+        DenseRow {
+            coefs: &[-2, -2, -2],
+            least: -3,
+        },
+    ],
 };
 
 /// x in 0 to 5 is never 10, so the multiplier climbs by 2,048 in each of the 64 rounds.
-const HOPELESS: Plain<'static> = Plain {
+const HOPELESS: DenseModel<'static> = DenseModel {
     costs: &[1],
     lows: &[0],
     highs: &[5],
-    rows: &[(&[1], 10)],
+    rows: &[DenseRow {
+        coefs: &[1],
+        least: 10,
+    }],
 };
 
 /// A cost of 2^40: the first step size and the multiplier are held at 2^40.
-const COSTLY: Plain<'static> = Plain {
+const COSTLY: DenseModel<'static> = DenseModel {
     costs: &[1_099_511_627_776],
     lows: &[0],
     highs: &[1],
-    rows: &[(&[1], 2)],
+    rows: &[DenseRow {
+        coefs: &[1],
+        least: 2,
+    }],
 };
 
-#[test]
-fn climbs_one_row(rt: HostRuntime) -> Result<(), Fail> {
-    let alloc = rt.alloc();
-    let found = ascent_of(alloc, &model(alloc, SINGLE)?, &[])?;
-    assert!(rt; is_found(&found, &[512], 2, &[0], 52));
-    let found = ascent_of(alloc, &model(alloc, NO_ROWS)?, &[])?;
-    assert!(rt; is_found(&found, &[], 0, &[0], 12));
-    Ok(())
+/// A model, whether its rows stand once more as cuts, and what the ascent finds with what work.
+struct Case {
+    dense: DenseModel<'static>,
+    again: bool,
+    mults: &'static [u64],
+    bound: i128,
+    values: &'static [i64],
+    work: u64,
 }
 
-#[test]
-fn keeps_to_its_limits(rt: HostRuntime) -> Result<(), Fail> {
-    let alloc = rt.alloc();
-    let found = ascent_of(alloc, &model(alloc, EVEN)?, &[])?;
-    assert!(rt; is_found(&found, &[0, 0], 0, &[0, 0, 0], 209));
-    let found = ascent_of(alloc, &model(alloc, HOPELESS)?, &[])?;
-    assert!(rt; is_found(&found, &[131_072], 645, &[5], 256));
-    let found = ascent_of(alloc, &model(alloc, COSTLY)?, &[])?;
-    assert!(rt; is_found(&found, &[1_099_511_627_776], 2_147_483_648, &[0], 168));
-    Ok(())
+const CASES: [Case; 6] = [
+    Case {
+        dense: SINGLE,
+        again: false,
+        mults: &[512],
+        bound: 2,
+        values: &[0],
+        work: 52,
+    },
+    Case {
+        dense: NO_ROWS,
+        again: false,
+        mults: &[],
+        bound: 0,
+        values: &[0],
+        work: 12,
+    },
+    Case {
+        dense: EVEN,
+        again: false,
+        mults: &[0, 0],
+        bound: 0,
+        values: &[0, 0, 0],
+        work: 209,
+    },
+    Case {
+        dense: HOPELESS,
+        again: false,
+        mults: &[131_072],
+        bound: 645,
+        values: &[5],
+        work: 256,
+    },
+    Case {
+        dense: COSTLY,
+        again: false,
+        mults: &[1_099_511_627_776],
+        bound: 2_147_483_648,
+        values: &[0],
+        work: 168,
+    },
+    // The first row takes all, and its copy nothing.
+    Case {
+        dense: SINGLE,
+        again: true,
+        mults: &[512, 0],
+        bound: 2,
+        values: &[0],
+        work: 91,
+    },
+];
+
+fn is_found(found: &Ascent, case: &Case) -> bool {
+    found.mults.as_slice() == case.mults
+        && found.bound == case.bound
+        && found.point.values() == case.values
+        && found.work == case.work
 }
 
-/// The numerator over dense rows, which may stand twice, where row i has another multiplier.
-fn slow_numerator(plain: Plain, mults: &[u64], i: usize, mult: u64) -> i128 {
-    let mut sum = 0i128;
-    for (k, (_, least)) in plain.rows.iter().enumerate() {
-        let own = i128::from(slow_multiplier(mults, k, i, mult));
-        sum = sum.wrapping_add(own.wrapping_mul(i128::from(*least)));
-    }
-    for (j, (low, high)) in plain.lows.iter().zip(plain.highs).enumerate() {
-        let mut reduced = i128::from(plain.costs.get(j).copied().unwrap_or(0)).wrapping_mul(1_024);
-        for (k, (coefs, _)) in plain.rows.iter().enumerate() {
-            let coef = i128::from(coefs.get(j).copied().unwrap_or(0));
-            let own = i128::from(slow_multiplier(mults, k, i, mult));
-            reduced = reduced.wrapping_sub(coef.wrapping_mul(own));
+fn finds_so(alloc: Global, case: &Case) -> Result<bool, OutOfMemory> {
+    let Some(found) = ascent_of(alloc, &case.dense, case.again)? else {
+        return Ok(false);
+    };
+    Ok(is_found(&found, case))
+}
+
+/// The first case that isn't found.
+fn first_wrong_case(alloc: Global, cases: &[Case]) -> Result<Option<usize>, OutOfMemory> {
+    for (at, case) in cases.iter().enumerate() {
+        if !finds_so(alloc, case)? {
+            return Ok(Some(at));
         }
-        let at_low = reduced.wrapping_mul(i128::from(*low));
-        let at_high = reduced.wrapping_mul(i128::from(*high));
-        sum = sum.wrapping_add(if at_high < at_low { at_high } else { at_low });
+    }
+    Ok(None)
+}
+
+#[test]
+fn climbs(rt: HostRuntime) -> Result<(), Fail> {
+    assert_eq!(rt; first_wrong_case(rt.alloc(), &CASES)?, None);
+    Ok(())
+}
+
+/// The sum over rows of multiplier times `least`.
+fn slow_least(rows: &[DenseRow], mults: &[u64]) -> i128 {
+    let mut sum = 0i128;
+    for (row, mult) in rows.iter().zip(mults) {
+        sum = sum.wrapping_add(i128::from(*mult).wrapping_mul(i128::from(row.least)));
     }
     sum
 }
 
-/// The multiplier of row k, where row i has another one.
-fn slow_multiplier(mults: &[u64], k: usize, i: usize, mult: u64) -> u64 {
-    if k == i {
-        mult
-    } else {
-        mults.get(k).copied().unwrap_or(0)
+/// The reduced cost of a column.
+fn slow_reduced(dense: &DenseModel, mults: &[u64], j: usize) -> i128 {
+    let cost = dense.costs.get(j).copied().unwrap_or(0);
+    let mut reduced = i128::from(cost).wrapping_mul(1_024);
+    for (row, mult) in dense.rows.iter().zip(mults) {
+        let coef = row.coefs.get(j).copied().unwrap_or(0);
+        reduced = reduced.wrapping_sub(i128::from(coef).wrapping_mul(i128::from(*mult)));
+    }
+    reduced
+}
+
+/// What a column adds to the numerator.
+fn slow_share(dense: &DenseModel, mults: &[u64], j: usize) -> i128 {
+    let reduced = slow_reduced(dense, mults, j);
+    let low = dense.lows.get(j).copied().unwrap_or(0);
+    let high = dense.highs.get(j).copied().unwrap_or(0);
+    let at_low = reduced.wrapping_mul(i128::from(low));
+    let at_high = reduced.wrapping_mul(i128::from(high));
+    at_low.min(at_high)
+}
+
+/// The numerator, summed row by row and then column by column.
+fn slow_numerator(dense: &DenseModel, mults: &[u64]) -> i128 {
+    let mut sum = slow_least(dense.rows, mults);
+    for j in 0..dense.costs.len() {
+        sum = sum.wrapping_add(slow_share(dense, mults, j));
+    }
+    sum
+}
+
+/// Gives row i a multiplier, where there is such a row.
+fn put(mults: &mut [u64], i: usize, mult: u64) {
+    if i < mults.len() {
+        mults[i] = mult;
     }
 }
 
-/// A row's next multiplier, found from the last candidate to the first.
-fn slow_choice(plain: Plain, mults: &[u64], i: usize, step_size: u64) -> u64 {
+/// Gives row i its next multiplier, found from the last candidate to the first. It tells whether that is another one.
+fn slow_row(dense: &DenseModel, mults: &mut [u64], i: usize, step_size: u64) -> bool {
     let own = mults.get(i).copied().unwrap_or(0);
     let raised = own.saturating_add(step_size).min(MAX_MULTIPLIER);
-    let mut best = None;
+    let mut greatest = i128::MIN;
+    let mut best = 0;
     for candidate in [0, own.saturating_sub(step_size), raised, own] {
-        let worth = slow_numerator(plain, mults, i, candidate);
-        best = match best {
-            Some((greatest, kept)) if greatest > worth => Some((greatest, kept)),
-            _ => Some((worth, candidate)),
-        };
+        put(mults, i, candidate);
+        let worth = slow_numerator(dense, mults);
+        if worth >= greatest {
+            greatest = worth;
+            best = candidate;
+        }
     }
-    best.map_or(0, |(_, kept)| kept)
+    put(mults, i, best);
+    best != own
 }
 
-/// The multipliers of an ascent and its rounds.
-fn slow_ascent(alloc: Global, plain: Plain) -> Result<(Vec<u64>, u64), Fail> {
-    let greatest = plain
-        .costs
-        .iter()
-        .map(|cost| cost.unsigned_abs())
-        .max()
-        .unwrap_or(0);
-    let mut step_size = greatest
-        .saturating_add(1)
-        .saturating_mul(1_024)
-        .min(MAX_MULTIPLIER);
-    let mut mults = vec![in alloc; 0u64; plain.rows.len()]?;
-    let mut rounds = 0u64;
-    for _ in 0..64 {
+/// One round. It tells whether a multiplier changed.
+fn slow_round(dense: &DenseModel, mults: &mut [u64], step_size: u64) -> bool {
+    let mut changed = false;
+    for i in 0..dense.rows.len() {
+        if slow_row(dense, mults, i, step_size) {
+            changed = true;
+        }
+    }
+    changed
+}
+
+/// The first step size, by the greatest absolute cost.
+fn slow_step_size(costs: &[i64]) -> u64 {
+    let mut greatest = 0;
+    for cost in costs {
+        greatest = cost.unsigned_abs().max(greatest);
+    }
+    let above = greatest.saturating_add(1);
+    above.saturating_mul(1_024).min(MAX_MULTIPLIER)
+}
+
+/// Makes the multipliers those of an ascent that begins with them. It tells the number of rounds.
+fn slow_ascent(dense: &DenseModel, mults: &mut [u64]) -> u64 {
+    let mut step_size = slow_step_size(dense.costs);
+    for rounds in 0..64 {
         if step_size == 0 {
-            break;
+            return rounds;
         }
-        let before = mults.clone()?;
-        for i in 0..before.len() {
-            let next = slow_choice(plain, &mults, i, step_size);
-            if let Some(place) = mults.get_mut(i) {
-                *place = next;
-            }
-        }
-        if mults == before {
+        if !slow_round(dense, mults, step_size) {
             step_size /= 2;
         }
-        rounds = rounds.wrapping_add(1);
     }
-    Ok((mults, rounds))
+    64
 }
 
-/// Whether the multipliers and the work are the slow ones; `terms` is the number of terms of all rows.
-fn agrees(alloc: Global, plain: Plain, terms: u64) -> Result<bool, Fail> {
-    let found = ascent_of(alloc, &model(alloc, plain)?, &[])?;
-    let (mults, rounds) = slow_ascent(alloc, plain)?;
-    let work = rounds.wrapping_mul(terms.wrapping_mul(3).wrapping_add(1));
-    Ok(found.mults.as_slice() == mults.as_slice() && found.work == work)
-}
-
-/// Draws of a linear congruence, which give the same numbers each time.
-#[derive(Drop)]
-struct Draws {
-    state: u64,
-}
-
-impl Draws {
-    /// A number from -3 to 3, times a scale.
-    fn number(&mut self, scale: i64) -> i64 {
-        self.state = self
-            .state
-            .wrapping_mul(6_364_136_223_846_793_005)
-            .wrapping_add(1_442_695_040_888_963_407);
-        (((self.state >> 33) % 7) as i64 - 3).wrapping_mul(scale)
+/// How many coefficients aren't 0.
+fn term_count(rows: &[DenseRow]) -> u64 {
+    let mut count = 0u64;
+    for row in rows {
+        for coef in row.coefs {
+            count = count.wrapping_add(u64::from(*coef != 0));
+        }
     }
-
-    fn numbers(&mut self, scale: i64) -> [i64; 3] {
-        [self.number(scale), self.number(scale), self.number(scale)]
-    }
+    count
 }
 
-/// Whether the ascent agrees with the slow one on a drawn model whose rows stand once more as cuts. Every third model has
-/// numbers of up to 2^40, and some have empty columns.
-fn agrees_drawn(alloc: Global, seed: u64) -> Result<bool, Fail> {
-    let mut draws = Draws { state: seed };
-    let scale = match seed % 3 {
+/// Whether an ascent has the multipliers and the work of the slow one, whose rows are given.
+fn is_slow(alloc: Global, found: &Ascent, dense: &DenseModel) -> Result<bool, OutOfMemory> {
+    let mut mults = vec![in alloc; 0u64; dense.rows.len()]?;
+    let rounds = slow_ascent(dense, &mut mults);
+    let round_work = term_count(dense.rows).wrapping_mul(3).wrapping_add(1);
+    Ok(found.mults.as_slice() == mults.as_slice() && found.work == rounds.wrapping_mul(round_work))
+}
+
+/// Whether the ascent of a dense model agrees with the slow one, which is given all rows: those that stand again too.
+fn agrees(
+    alloc: Global,
+    dense: &DenseModel,
+    again: bool,
+    whole: &DenseModel,
+) -> Result<bool, OutOfMemory> {
+    let Some(found) = ascent_of(alloc, dense, again)? else {
+        return Ok(false);
+    };
+    is_slow(alloc, &found, whole)
+}
+
+/// Two columns from -1 to 4 and from 1 to 3, and two rows.
+const PAIR: DenseModel<'static> = DenseModel {
+    costs: &[2, -3],
+    lows: &[-1, 1],
+    highs: &[4, 3],
+    rows: &[
+        DenseRow {
+            coefs: &[1, 2],
+            least: 3,
+        },
+        DenseRow {
+            coefs: &[-1, 1],
+            least: -2,
+        },
+    ],
+};
+
+/// Three columns from 0 to 3, to be kept within 5, 11 and 8.
+const PACKED: DenseModel<'static> = DenseModel {
+    costs: &[-5, -4, -3],
+    lows: &[0, 0, 0],
+    highs: &[3, 3, 3],
+    rows: &[
+        DenseRow {
+            coefs: &[-2, -3, -1],
+            least: -5,
+        },
+        DenseRow {
+            coefs: &[-4, -1, -2],
+            least: -11,
+        },
+        DenseRow {
+            coefs: &[-3, -4, -2],
+            least: -8,
+        },
+    ],
+};
+
+/// The first column is empty.
+const EMPTY: DenseModel<'static> = DenseModel {
+    costs: &[1, 5],
+    lows: &[4, -2],
+    highs: &[1, 7],
+    rows: &[
+        DenseRow {
+            coefs: &[3, 0],
+            least: 1,
+        },
+        DenseRow {
+            coefs: &[1, -1],
+            least: -9,
+        },
+    ],
+};
+
+const COMPARED: [DenseModel<'static>; 4] = [PAIR, PACKED, EMPTY, HOPELESS];
+
+/// The first model on which the two ascents differ.
+fn first_difference(alloc: Global, models: &[DenseModel]) -> Result<Option<usize>, OutOfMemory> {
+    for (at, dense) in models.iter().enumerate() {
+        if !agrees(alloc, dense, false, dense)? {
+            return Ok(Some(at));
+        }
+    }
+    Ok(None)
+}
+
+#[test]
+fn agrees_with_slow_climbs(rt: HostRuntime) -> Result<(), Fail> {
+    assert_eq!(rt; first_difference(rt.alloc(), &COMPARED)?, None);
+    Ok(())
+}
+
+/// The next state of a chain of draws.
+fn next_state(state: u64) -> u64 {
+    state
+        .wrapping_mul(6_364_136_223_846_793_005)
+        .wrapping_add(1_442_695_040_888_963_407)
+}
+
+/// A number from -3 to 3, the one at a place among those of a seed.
+fn drawn_number(seed: u64, place: u64) -> i64 {
+    let state = next_state(next_state(seed.wrapping_mul(100).wrapping_add(place)));
+    ((state >> 33) % 7) as i64 - 3
+}
+
+/// Three numbers in turn, times a scale.
+fn three_numbers(seed: u64, place: u64, scale: i64) -> [i64; 3] {
+    [
+        drawn_number(seed, place).wrapping_mul(scale),
+        drawn_number(seed, place.wrapping_add(1)).wrapping_mul(scale),
+        drawn_number(seed, place.wrapping_add(2)).wrapping_mul(scale),
+    ]
+}
+
+/// Highs that are up to 5 above lows, and at most 1 below.
+fn highs_above(lows: &[i64; 3], seed: u64) -> [i64; 3] {
+    [
+        lows[0].wrapping_add(drawn_number(seed, 6)).wrapping_add(2),
+        lows[1].wrapping_add(drawn_number(seed, 7)).wrapping_add(2),
+        lows[2].wrapping_add(drawn_number(seed, 8)).wrapping_add(2),
+    ]
+}
+
+/// The scale of a drawn model's numbers: every third model has some of up to 2^40.
+fn scale_of(seed: u64) -> i64 {
+    match seed % 3 {
         0 => 1,
         1 => 1_000,
         _ => 274_877_906_944,
+    }
+}
+
+/// Whether the ascent agrees with the slow one on a drawn model whose rows stand once more as cuts. Some have empty
+/// columns.
+fn agrees_drawn(alloc: Global, seed: u64) -> Result<bool, OutOfMemory> {
+    let scale = scale_of(seed);
+    let costs = three_numbers(seed, 0, scale);
+    let lows = three_numbers(seed, 3, 1);
+    let highs = highs_above(&lows, seed);
+    let coefs = three_numbers(seed, 9, scale);
+    let more_coefs = three_numbers(seed, 12, scale);
+    let leasts = three_numbers(seed, 15, scale);
+    let first = DenseRow {
+        coefs: &coefs,
+        least: leasts[0],
     };
-    let costs = draws.numbers(scale);
-    let lows = draws.numbers(1);
-    let gaps = draws.numbers(1);
-    let highs = [
-        lows[0].wrapping_add(gaps[0]).wrapping_add(2),
-        lows[1].wrapping_add(gaps[1]).wrapping_add(2),
-        lows[2].wrapping_add(gaps[2]).wrapping_add(2),
-    ];
-    let first = draws.numbers(scale);
-    let second = draws.numbers(scale);
-    let leasts = draws.numbers(scale);
-    let rows: [(&[i64], i64); 2] = [(&first, leasts[0]), (&second, leasts[1])];
-    let twice = [rows[0], rows[1], rows[0], rows[1]];
-    let plain = Plain {
+    let second = DenseRow {
+        coefs: &more_coefs,
+        least: leasts[1],
+    };
+    let dense = DenseModel {
         costs: &costs,
         lows: &lows,
         highs: &highs,
-        rows: &rows,
+        rows: &[first, second],
     };
-    let model = model(alloc, plain)?;
-    // The model's rows serve as cuts.
-    let _limits = model.parts();
-    let found = ascent_of(alloc, &model, model.rows())?;
-    let (mults, rounds) = slow_ascent(
-        alloc,
-        Plain {
-            rows: &twice,
-            ..plain
-        },
-    )?;
-    let mut terms = 0u64;
-    for (coefs, _) in twice {
-        for coef in coefs {
-            terms = terms.wrapping_add(if *coef == 0 { 0 } else { 1 });
-        }
-    }
-    let work = rounds.wrapping_mul(terms.wrapping_mul(3).wrapping_add(1));
-    Ok(found.mults.as_slice() == mults.as_slice() && found.work == work)
+    let whole = DenseModel {
+        rows: &[first, second, first, second],
+        ..dense
+    };
+    agrees(alloc, &dense, true, &whole)
 }
 
 /// The first of `count` drawn models on which the two ascents differ.
-fn first_drawn_difference(alloc: Global, count: u64) -> Result<Option<u64>, Fail> {
+fn first_drawn_difference(alloc: Global, count: u64) -> Result<Option<u64>, OutOfMemory> {
     for seed in 0..count {
         if !agrees_drawn(alloc, seed)? {
             return Ok(Some(seed));
@@ -310,74 +483,49 @@ fn first_drawn_difference(alloc: Global, count: u64) -> Result<Option<u64>, Fail
     Ok(None)
 }
 
-/// Two columns from -1 to 4 and from 1 to 3, and two rows.
-const PAIR: Plain<'static> = Plain {
-    costs: &[2, -3],
-    lows: &[-1, 1],
-    highs: &[4, 3],
-    rows: &[(&[1, 2], 3), (&[-1, 1], -2)],
-};
-
-/// Three columns from 0 to 3, to be kept within 5, 11 and 8.
-const PACKED: Plain<'static> = Plain {
-    costs: &[-5, -4, -3],
-    lows: &[0, 0, 0],
-    highs: &[3, 3, 3],
-    rows: &[
-        (&[-2, -3, -1], -5),
-        (&[-4, -1, -2], -11),
-        (&[-3, -4, -2], -8),
-    ],
-};
-
-/// The first column is empty.
-const EMPTY: Plain<'static> = Plain {
-    costs: &[1, 5],
-    lows: &[4, -2],
-    highs: &[1, 7],
-    rows: &[(&[3, 0], 1), (&[1, -1], -9)],
-};
-
 #[test]
-fn agrees_with_slow_climbs(rt: HostRuntime) -> Result<(), Fail> {
-    let alloc = rt.alloc();
-    assert!(rt; agrees(alloc, PAIR, 4)?);
-    assert!(rt; agrees(alloc, PACKED, 9)?);
-    assert!(rt; agrees(alloc, EMPTY, 3)?);
-    assert!(rt; agrees(alloc, HOPELESS, 1)?);
-    assert_eq!(rt; first_drawn_difference(alloc, 100)?, None);
+fn agrees_on_drawn_models(rt: HostRuntime) -> Result<(), Fail> {
+    assert_eq!(rt; first_drawn_difference(rt.alloc(), 100)?, None);
     Ok(())
 }
 
-/// The numerator with the first row's multiplier changed to each of these in turn, without and with keeping it.
-fn numerators(alloc: Global, model: &Model, mults: [u64; 3]) -> Result<[(i128, i128); 3], Fail> {
-    if model.rows().is_empty() || mults[0] > MAX_MULTIPLIER || mults[1] > MAX_MULTIPLIER {
-        return Err("a row and small multipliers".into());
-    }
-    if mults[2] > MAX_MULTIPLIER {
-        return Err("small multipliers".into());
+/// Where the first row's multiplier is `before`, the numerator with another one, and then once it has that.
+fn numerators(
+    alloc: Global,
+    model: &Model,
+    before: u64,
+    mult: u64,
+) -> Result<Option<(i128, i128)>, OutOfMemory> {
+    if model.rows().is_empty() || before > MAX_MULTIPLIER || mult > MAX_MULTIPLIER {
+        return Ok(None);
     }
     let mut kept = Reduced::of(alloc, model, &[], model.root())?;
-    let first = kept.trial(model, &[], model.root(), 0, mults[0]);
-    let second = kept.trial(model, &[], model.root(), 0, mults[1]);
-    let third = kept.trial(model, &[], model.root(), 0, mults[2]);
-    kept.set(model, &[], model.root(), 0, mults[0]);
-    let first_kept = kept.numerator();
-    kept.set(model, &[], model.root(), 0, mults[1]);
-    let second_kept = kept.numerator();
-    kept.set(model, &[], model.root(), 0, mults[2]);
-    Ok([
-        (first, first_kept),
-        (second, second_kept),
-        (third, kept.numerator()),
-    ])
+    kept.set(model, &[], model.root(), 0, before);
+    let trial = kept.trial(model, &[], model.root(), 0, mult);
+    kept.set(model, &[], model.root(), 0, mult);
+    Ok(Some((trial, kept.numerator())))
+}
+
+/// The same of a dense model.
+fn dense_numerators(
+    alloc: Global,
+    dense: &DenseModel,
+    before: u64,
+    mult: u64,
+) -> Result<Option<(i128, i128)>, OutOfMemory> {
+    let Some(model) = model_of(alloc, dense)? else {
+        return Ok(None);
+    };
+    numerators(alloc, &model, before, mult)
 }
 
 #[test]
 fn keeps_sums(rt: HostRuntime) -> Result<(), Fail> {
     let alloc = rt.alloc();
-    let found = numerators(alloc, &model(alloc, SINGLE)?, [512, 1_024, 0])?;
-    assert_eq!(rt; found, [(1_536, 1_536), (-2_048, -2_048), (0, 0)]);
+    for (before, mult, wanted) in [(0, 512, 1_536), (512, 1_024, -2_048), (1_024, 0, 0)] {
+        let found = dense_numerators(alloc, &SINGLE, before, mult)?;
+        assert_eq!(rt; found, Some((wanted, wanted)), "from {before} to {mult}");
+    }
     Ok(())
 }
 
@@ -427,7 +575,7 @@ impl Pulse for Told {
 
 /// The ticks of the ascent over the root box, and their sum.
 #[tactic(auto, using(crate::proofs::AscentWork::ascent_work_allowed))]
-fn ticks(alloc: Global, model: &Model) -> Result<(u64, u64), Fail> {
+fn ticks(alloc: Global, model: &Model) -> Result<(u64, u64), OutOfMemory> {
     // The model's limits keep the ascent's work within the allowance.
     let _limits = model.parts();
     let mut pulse = Told::new();
@@ -435,21 +583,17 @@ fn ticks(alloc: Global, model: &Model) -> Result<(u64, u64), Fail> {
     Ok((pulse.ticks, pulse.sum))
 }
 
-#[test]
-fn tells_each_round(rt: HostRuntime) -> Result<(), Fail> {
-    let alloc = rt.alloc();
-    assert_eq!(rt; ticks(alloc, &model(alloc, SINGLE)?)?, (13, 52));
-    Ok(())
+/// The same of a dense model.
+fn dense_ticks(alloc: Global, dense: &DenseModel) -> Result<Option<(u64, u64)>, OutOfMemory> {
+    let Some(model) = model_of(alloc, dense)? else {
+        return Ok(None);
+    };
+    Ok(Some(ticks(alloc, &model)?))
 }
 
-/// The row 2x >= 3 stands twice: the first takes all, and the second nothing.
 #[test]
-fn climbs_with_cuts(rt: HostRuntime) -> Result<(), Fail> {
-    let alloc = rt.alloc();
-    let model = model(alloc, SINGLE)?;
-    let _limits = model.parts();
-    let found = ascent_of(alloc, &model, model.rows())?;
-    assert!(rt; is_found(&found, &[512, 0], 2, &[0], 91));
+fn tells_each_round(rt: HostRuntime) -> Result<(), Fail> {
+    assert_eq!(rt; dense_ticks(rt.alloc(), &SINGLE)?, Some((13, 52)));
     Ok(())
 }
 

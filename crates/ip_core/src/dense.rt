@@ -27,7 +27,7 @@ pub struct DenseModel<'a> {
 impl DenseModel<'_> {
     /// The model of these numbers, which minimises and has no constant and no decimals. Each name is `x`, and a row has
     /// no term where its coefficient is 0. None exactly where a row has more or fewer coefficients than there are costs,
-    /// or where the parts break a limit of models.
+    /// or where the parts make no model.
     pub fn build(&self, alloc: Global) -> Result<Option<Model>, OutOfMemory>
         ensures { IfOk result (λ m. SomeIff m (IsDense self.now) (dense_parts self.now)) }
     {
