@@ -53,10 +53,10 @@ impl Tasker for Relay {
         _key: Key,
         entry: &Entry,
     ) -> Result<(), OutOfMemory> {
-        let (begun, ended) = *view;
+        let (starts, ends) = *view;
         match entry {
-            Entry::Start { .. } => *view = (one_more(begun), ended),
-            Entry::Done => *view = (begun, one_more(ended)),
+            Entry::Start { .. } => *view = (one_more(starts), ends),
+            Entry::Done => *view = (starts, one_more(ends)),
             _ => {}
         }
         Ok(())
@@ -72,14 +72,14 @@ impl Tasker for Relay {
         view: &(u64, u64),
         local: &mut u64,
     ) -> Result<Begin, OutOfMemory> {
-        let (begun, ended) = *view;
-        if begun < 3 {
+        let (starts, ends) = *view;
+        if starts < 3 {
             let mut entries = List::new(alloc);
-            entries.push(Entry::Start { node: begun })?;
+            entries.push(Entry::Start { node: starts })?;
             *local = 2;
             return Ok(Begin::Take(entries));
         }
-        Ok(if ended < 3 { Begin::Idle } else { Begin::End })
+        Ok(if ends < 3 { Begin::Idle } else { Begin::End })
     }
 
     fn chunk<P: Pulse>(
@@ -140,80 +140,134 @@ fn leaf(alloc: Global) -> Record
     }
 }
 
-/// A history in short: each entry with its key by the name of its kind, the number of records of each slot, and the ends.
-fn summary(alloc: Global, history: &History) -> Result<String, OutOfMemory> {
-    let mut text = String::new(alloc);
-    for item in history.entries.as_slice() {
-        let kind = match &item.entry {
-            Entry::Start { node } => format!(in alloc; "start {node}")?,
-            Entry::Found { .. } => format!(in alloc; "found")?,
-            Entry::Done => format!(in alloc; "done")?,
-            Entry::Halt => format!(in alloc; "halt")?,
-            _ => format!(in alloc; "other")?,
-        };
-        let line = format!(in alloc; "{} {} {kind}, ", item.key.stamp, item.key.slot)?;
-        text.push_str(line.as_str())?;
+// The numbers of the kinds of entries that a relay publishes.
+const START: u64 = 1;
+
+const FOUND: u64 = 2;
+
+const DONE: u64 = 3;
+
+const HALT: u64 = 4;
+
+/// The number of an entry's kind, and the node of a Start. Another kind has the number 0.
+fn kind_and_node(entry: &Entry) -> (u64, u64) {
+    match entry {
+        Entry::Start { node } => (START, *node),
+        Entry::Found { .. } => (FOUND, 0),
+        Entry::Done => (DONE, 0),
+        Entry::Halt => (HALT, 0),
+        _ => (0, 0),
     }
-    for records in history.records.as_slice() {
-        let line = format!(in alloc; "{} records, ", records.len())?;
-        text.push_str(line.as_str())?;
-    }
-    for end in history.ends.as_slice() {
-        let line = format!(in alloc; "end {end}, ")?;
-        text.push_str(line.as_str())?;
-    }
-    Ok(text)
 }
 
-fn played(alloc: Global, slots: u32, work: u64, store: u32) -> Result<String, OutOfMemory>
+/// A row for each entry: its stamp, its slot, the number of its kind, and the node of a Start.
+fn entry_rows(alloc: Global, history: &History) -> Result<List<[u64; 4]>, OutOfMemory> {
+    let mut rows = List::new(alloc);
+    for item in history.entries.as_slice() {
+        let (kind, node) = kind_and_node(&item.entry);
+        rows.push([item.key.stamp, u64::from(item.key.slot), kind, node])?;
+    }
+    Ok(rows)
+}
+
+/// How many records each slot has.
+fn record_counts(alloc: Global, history: &History) -> Result<List<usize>, OutOfMemory> {
+    let mut counts = List::new(alloc);
+    for records in history.records.as_slice() {
+        counts.push(records.len())?;
+    }
+    Ok(counts)
+}
+
+/// The history of the relay under these limits.
+fn relay_history(alloc: Global, slots: u32, work: u64, store: u32) -> Result<History, OutOfMemory>
     requires { AreLimits (record { slots = slots; work = work; store = store }) }
 {
     let limits = Limits { slots, work, store };
-    let history = run_alone(alloc, &Relay, &limits)?;
-    summary(alloc, &history)
+    run_alone(alloc, &Relay, &limits)
+}
+
+/// Whether a history has these rows, these numbers of records and these ends.
+fn is_outline(
+    alloc: Global,
+    history: &History,
+    rows: &[[u64; 4]],
+    records: &[usize],
+    ends: &[u64],
+) -> Result<bool, OutOfMemory> {
+    Ok(
+        entry_rows(alloc, history)?.as_slice() == rows
+            && record_counts(alloc, history)?.as_slice() == records
+            && history.ends.as_slice() == ends,
+    )
 }
 
 // At 700 slot 1 waits for slot 0, and both are over once three tasks have ended.
 #[test]
 fn two_slots_share_a_history(rt: HostRuntime) -> Result<(), Fail> {
-    let text = played(rt.alloc(), 2, 2_000, 1_000)?;
-    assert_eq!(rt;
-        text.as_str(),
-        "0 0 start 0, 0 1 start 1, 400 0 found, 400 1 found, 700 0 done, 700 0 start 2, 700 1 done, 1100 0 found, 1400 0 done, 2 records, 1 records, end 1400, end 1700, "
-    );
+    let history = relay_history(rt.alloc(), 2, 2_000, 1_000)?;
+    let rows = [
+        [0, 0, START, 0],
+        [0, 1, START, 1],
+        [400, 0, FOUND, 0],
+        [400, 1, FOUND, 0],
+        [700, 0, DONE, 0],
+        [700, 0, START, 2],
+        [700, 1, DONE, 0],
+        [1_100, 0, FOUND, 0],
+        [1_400, 0, DONE, 0],
+    ];
+    assert!(rt; is_outline(rt.alloc(), &history, &rows, &[2, 1], &[1_400, 1_700])?);
     Ok(())
 }
 
 // The last entry of slot 0 would be its words 60 to 62, of 60 that it may publish. Slot 1 waits past the limit of work.
 #[test]
 fn a_full_slot_halts(rt: HostRuntime) -> Result<(), Fail> {
-    let text = played(rt.alloc(), 2, 2_000, 64)?;
-    assert_eq!(rt;
-        text.as_str(),
-        "0 0 start 0, 0 1 start 1, 400 0 found, 400 1 found, 700 0 done, 700 0 start 2, 700 1 done, 1100 0 found, 1400 0 halt, 1 records, 1 records, end 1400, end 2700, "
-    );
+    let history = relay_history(rt.alloc(), 2, 2_000, 64)?;
+    let rows = [
+        [0, 0, START, 0],
+        [0, 1, START, 1],
+        [400, 0, FOUND, 0],
+        [400, 1, FOUND, 0],
+        [700, 0, DONE, 0],
+        [700, 0, START, 2],
+        [700, 1, DONE, 0],
+        [1_100, 0, FOUND, 0],
+        [1_400, 0, HALT, 0],
+    ];
+    assert!(rt; is_outline(rt.alloc(), &history, &rows, &[1, 1], &[1_400, 2_700])?);
     Ok(())
 }
 
 // What is pending at the limit of work is dropped with its record.
 #[test]
 fn work_ends_at_its_limit(rt: HostRuntime) -> Result<(), Fail> {
-    let text = played(rt.alloc(), 2, 700, 1_000)?;
-    assert_eq!(rt;
-        text.as_str(),
-        "0 0 start 0, 0 1 start 1, 400 0 found, 400 1 found, 0 records, 0 records, end 700, end 700, "
-    );
+    let history = relay_history(rt.alloc(), 2, 700, 1_000)?;
+    let rows = [
+        [0, 0, START, 0],
+        [0, 1, START, 1],
+        [400, 0, FOUND, 0],
+        [400, 1, FOUND, 0],
+    ];
+    assert!(rt; is_outline(rt.alloc(), &history, &rows, &[0, 0], &[700, 700])?);
     Ok(())
 }
 
 // Two whole tasks have 62 words, all that fit. A third one doesn't.
 #[test]
 fn a_task_that_does_not_fit_is_not_taken(rt: HostRuntime) -> Result<(), Fail> {
-    let text = played(rt.alloc(), 1, 5_000, 66)?;
-    assert_eq!(rt;
-        text.as_str(),
-        "0 0 start 0, 400 0 found, 700 0 done, 700 0 start 1, 1100 0 found, 1400 0 done, 1400 0 halt, 2 records, end 1400, "
-    );
+    let history = relay_history(rt.alloc(), 1, 5_000, 66)?;
+    let rows = [
+        [0, 0, START, 0],
+        [400, 0, FOUND, 0],
+        [700, 0, DONE, 0],
+        [700, 0, START, 1],
+        [1_100, 0, FOUND, 0],
+        [1_400, 0, DONE, 0],
+        [1_400, 0, HALT, 0],
+    ];
+    assert!(rt; is_outline(rt.alloc(), &history, &rows, &[2], &[1_400])?);
     Ok(())
 }
 

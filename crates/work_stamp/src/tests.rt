@@ -62,64 +62,39 @@ const LOW_SPLIT: Entry = Entry::Split {
     bound: -3,
 };
 
-/// Whether the entry's words are these, behind what was there, and whether it is read from them again.
-fn goes_both_ways(alloc: Global, stamp: u64, entry: Entry, words: &[u64]) -> Result<bool, Fail>
+/// Appends the words of an entry, and says whether they are these.
+fn has_words(
+    out: &mut List<u64>,
+    stamp: u64,
+    entry: Entry,
+    words: &[u64],
+) -> Result<bool, OutOfMemory>
     requires { IsWritable entry }
 {
-    let item = Stamped { stamp, entry };
-    let mut out = List::new(alloc);
-    out.push(100)?;
-    to_words(&item, &mut out)?;
-    let mut expected = Vec::from_slice(alloc, &[100])?;
-    expected.extend_from_slice(words)?;
-    if out.as_slice() != expected.as_slice() || item.entry.word_count() != words.len() as u64 {
-        return Ok(false);
-    }
-    expected.push(3)?;
-    let list = expected.as_slice();
-    if list.len() < 2 || 100 < list.len() {
-        return Ok(false);
-    }
-    let read = read_words(alloc, &list[1..])?;
-    let again = format!(in alloc; "{:?}", read.item)?;
-    let given = format!(in alloc; "{:?}", item)?;
-    Ok(read.used as usize == words.len() && again.as_str() == given.as_str())
+    let before = out.len();
+    let count = entry.word_count();
+    to_words(&Stamped { stamp, entry }, out)?;
+    Ok(count == words.len() as u64 && &out.as_slice()[before..] == words)
 }
 
-#[test]
-fn entries_of_a_node_are_these_words(rt: HostRuntime) -> Result<(), Fail> {
-    let alloc = rt.alloc();
-    let start = Entry::Start { node: 0 };
-    let dive = Entry::HeurStart { node: 5 };
-    let closed = Entry::Closed { node: 4 };
-    assert!(rt; goes_both_ways(alloc, 0, start, &[4, 1, 0, 0])?);
-    assert!(rt; goes_both_ways(alloc, 8, dive, &[4, 3, 8, 5])?);
-    assert!(rt; goes_both_ways(alloc, 13, closed, &[4, 8, 13, 4])?);
-    Ok(())
-}
-
-#[test]
-fn bare_entries_are_these_words(rt: HostRuntime) -> Result<(), Fail> {
-    let alloc = rt.alloc();
-    assert!(rt; goes_both_ways(alloc, 7, Entry::CutStart, &[3, 2, 7])?);
-    assert!(rt; goes_both_ways(alloc, 9, Entry::Done, &[3, 4, 9])?);
-    assert!(rt; goes_both_ways(alloc, 14, Entry::Halt, &[3, 9, 14])?);
-    Ok(())
-}
-
-#[test]
-fn splits_are_these_words(rt: HostRuntime) -> Result<(), Fail> {
-    let alloc = rt.alloc();
+/// Whether entries without lists have these words.
+fn short_entries(out: &mut List<u64>) -> Result<[bool; 8], OutOfMemory> {
     let most = u64::MAX;
     let low = [9, 7, 1, 6, 2, most, 12, 2, most - 2];
-    assert!(rt; goes_both_ways(alloc, 217, SPLIT, &[9, 7, 217, 0, 0, 0, 4, 0, 0])?);
-    assert!(rt; goes_both_ways(alloc, 1, LOW_SPLIT, &low)?);
-    Ok(())
+    Ok([
+        has_words(out, 0, Entry::Start { node: 0 }, &[4, 1, 0, 0])?,
+        has_words(out, 7, Entry::CutStart, &[3, 2, 7])?,
+        has_words(out, 8, Entry::HeurStart { node: 5 }, &[4, 3, 8, 5])?,
+        has_words(out, 9, Entry::Done, &[3, 4, 9])?,
+        has_words(out, 217, SPLIT, &[9, 7, 217, 0, 0, 0, 4, 0, 0])?,
+        has_words(out, 1, LOW_SPLIT, &low)?,
+        has_words(out, 13, Entry::Closed { node: 4 }, &[4, 8, 13, 4])?,
+        has_words(out, 14, Entry::Halt, &[3, 9, 14])?,
+    ])
 }
 
-#[test]
-fn points_are_these_words(rt: HostRuntime) -> Result<(), Fail> {
-    let alloc = rt.alloc();
+/// Whether entries with lists have these words.
+fn long_entries(alloc: Global, out: &mut List<u64>) -> Result<[bool; 4], OutOfMemory> {
     let most = u64::MAX;
     let found = Entry::Found {
         value: -2,
@@ -129,75 +104,164 @@ fn points_are_these_words(rt: HostRuntime) -> Result<(), Fail> {
         value: i64::MIN,
         point: point(alloc, &[])?,
     };
-    let bare = [4, 5, most, 9_223_372_036_854_775_808];
-    assert!(rt; goes_both_ways(alloc, 10, found, &[6, 5, 10, most - 1, 5, most])?);
-    assert!(rt; goes_both_ways(alloc, most, least, &bare)?);
-    Ok(())
+    Ok([
+        has_words(out, 10, found, &[6, 5, 10, most - 1, 5, most])?,
+        has_words(out, most, least, &[4, 5, most, 9_223_372_036_854_775_808])?,
+        has_words(out, 11, gomory(alloc)?, &[9, 6, 11, 0, 4, 6, 7, 5, 9])?,
+        has_words(out, 12, cover(alloc)?, &[7, 6, 12, 1, 3, 0, 5])?,
+    ])
 }
 
 #[test]
-fn cuts_are_these_words(rt: HostRuntime) -> Result<(), Fail> {
-    let alloc = rt.alloc();
-    let sum = [9, 6, 11, 0, 4, 6, 7, 5, 9];
-    assert!(rt; goes_both_ways(alloc, 11, gomory(alloc)?, &sum)?);
-    assert!(rt; goes_both_ways(alloc, 12, cover(alloc)?, &[7, 6, 12, 1, 3, 0, 5])?);
+fn entries_are_these_words(rt: HostRuntime) -> Result<(), Fail> {
+    let mut out = List::new(rt.alloc());
+    assert!(rt; short_entries(&mut out)? == [true; 8]);
+    assert!(rt; long_entries(rt.alloc(), &mut out)? == [true; 4]);
     Ok(())
 }
 
-#[test]
-fn refusals_come_in_this_order(rt: HostRuntime) -> Result<(), Fail> {
-    let alloc = rt.alloc();
-    let cases: [(&[u64], WordsError); 22] = [
-        (&[], WordsError::Short),
-        (&[4, 1, 0], WordsError::Short),
-        (&[2], WordsError::Short),
-        (&[1], WordsError::Length),
-        (&[0, 12, 0], WordsError::Length),
-        (&[3, 12, 0], WordsError::Kind),
-        (&[3, 0, 0], WordsError::Kind),
-        (&[5, 10, 0, 0, 0], WordsError::Kind),
-        (&[3, 1, 0], WordsError::Length),
-        (&[4, 2, 0, 0], WordsError::Length),
-        (&[3, 5, 0], WordsError::Length),
-        (&[10, 7, 0, 0, 0, 0, 0, 0, 0, 0], WordsError::Length),
-        (&[9, 7, 0, 0, 4_294_967_296, 0, 0, 0, 0], WordsError::Value),
-        (&[9, 7, 0, 0, 0, 0, 0, 3, 0], WordsError::Value),
-        (&[3, 6, 0], WordsError::Length),
-        (&[4, 6, 0, 2], WordsError::Value),
-        (&[4, 6, 0, 1], WordsError::Length),
-        (&[4, 6, 0, 0], WordsError::Length),
-        (&[6, 6, 0, 0, 1, 8_589_934_592], WordsError::Length),
-        (&[7, 6, 0, 0, 1, 8_589_934_592, 1], WordsError::Value),
-        (&[5, 6, 0, 1, 8_589_934_592], WordsError::Value),
-        (&[6, 6, 0, 1, 0, 4_294_967_296], WordsError::Value),
-    ];
-    for (words, wanted) in cases {
+/// Words, and what is read from them: each form of entry, some with a word behind it, and then each refusal.
+const READS: [(&[u64], &str); 34] = [
+    (
+        &[4, 1, 0, 0, 3],
+        "Ok(WordRead { item: Stamped { stamp: 0, entry: Start { node: 0 } }, used: 4 })",
+    ),
+    (
+        &[3, 2, 7, 3],
+        "Ok(WordRead { item: Stamped { stamp: 7, entry: CutStart }, used: 3 })",
+    ),
+    (
+        &[4, 3, 8, 5],
+        "Ok(WordRead { item: Stamped { stamp: 8, entry: HeurStart { node: 5 } }, used: 4 })",
+    ),
+    (
+        &[3, 4, 9],
+        "Ok(WordRead { item: Stamped { stamp: 9, entry: Done }, used: 3 })",
+    ),
+    (
+        &[
+            6,
+            5,
+            10,
+            18_446_744_073_709_551_614,
+            5,
+            18_446_744_073_709_551_615,
+            9,
+        ],
+        "Ok(WordRead { item: Stamped { stamp: 10, entry: Found { value: -2, point: Point { values: List { items: [5, -1] } } } }, used: 6 })",
+    ),
+    (
+        &[4, 5, 18_446_744_073_709_551_615, 9_223_372_036_854_775_808],
+        "Ok(WordRead { item: Stamped { stamp: 18446744073709551615, entry: Found { value: -9223372036854775808, point: Point { values: List { items: [] } } } }, used: 4 })",
+    ),
+    (
+        &[9, 6, 11, 0, 4, 6, 7, 5, 9],
+        "Ok(WordRead { item: Stamped { stamp: 11, entry: Cut { derivation: Gomory { parts: List { items: [Pair { row: Model(3), weight: 7 }, Pair { row: Cut(2), weight: 9 }] }, divisor: 4 } } }, used: 9 })",
+    ),
+    (
+        &[7, 6, 12, 1, 3, 0, 5],
+        "Ok(WordRead { item: Stamped { stamp: 12, entry: Cut { derivation: Cover { row: Cut(1), cols: List { items: [0, 5] } } } }, used: 7 })",
+    ),
+    (
+        &[9, 7, 217, 0, 0, 0, 4, 0, 0],
+        "Ok(WordRead { item: Stamped { stamp: 217, entry: Split { node: 0, col: 0, at: 0, first: 4, keep: 0, bound: 0 } }, used: 9 })",
+    ),
+    (
+        &[
+            9,
+            7,
+            1,
+            6,
+            2,
+            18_446_744_073_709_551_615,
+            12,
+            2,
+            18_446_744_073_709_551_613,
+        ],
+        "Ok(WordRead { item: Stamped { stamp: 1, entry: Split { node: 6, col: 2, at: -1, first: 12, keep: 2, bound: -3 } }, used: 9 })",
+    ),
+    (
+        &[4, 8, 13, 4],
+        "Ok(WordRead { item: Stamped { stamp: 13, entry: Closed { node: 4 } }, used: 4 })",
+    ),
+    (
+        &[3, 9, 14],
+        "Ok(WordRead { item: Stamped { stamp: 14, entry: Halt }, used: 3 })",
+    ),
+    (&[], "Err(Short)"),
+    (&[4, 1, 0], "Err(Short)"),
+    (&[2], "Err(Short)"),
+    (&[1], "Err(Length)"),
+    (&[0, 12, 0], "Err(Length)"),
+    (&[3, 12, 0], "Err(Kind)"),
+    (&[3, 0, 0], "Err(Kind)"),
+    (&[5, 10, 0, 0, 0], "Err(Kind)"),
+    (&[3, 1, 0], "Err(Length)"),
+    (&[4, 2, 0, 0], "Err(Length)"),
+    (&[3, 5, 0], "Err(Length)"),
+    (&[10, 7, 0, 0, 0, 0, 0, 0, 0, 0], "Err(Length)"),
+    (&[9, 7, 0, 0, 4_294_967_296, 0, 0, 0, 0], "Err(Value)"),
+    (&[9, 7, 0, 0, 0, 0, 0, 3, 0], "Err(Value)"),
+    (&[3, 6, 0], "Err(Length)"),
+    (&[4, 6, 0, 2], "Err(Value)"),
+    (&[4, 6, 0, 1], "Err(Length)"),
+    (&[4, 6, 0, 0], "Err(Length)"),
+    (&[6, 6, 0, 0, 1, 8_589_934_592], "Err(Length)"),
+    (&[7, 6, 0, 0, 1, 8_589_934_592, 1], "Err(Value)"),
+    (&[5, 6, 0, 1, 8_589_934_592], "Err(Value)"),
+    (&[6, 6, 0, 1, 0, 4_294_967_296], "Err(Value)"),
+];
+
+/// The first case that is read in another way.
+fn first_wrong_read(alloc: Global) -> Result<Option<usize>, OutOfMemory> {
+    for place in 0..READS.len() {
+        let (words, wanted) = READS[place];
         if 100 < words.len() {
-            return Err(Fail::from("short words"));
+            return Ok(Some(place));
         }
-        let refused = read_words(alloc, words).err();
-        assert_eq!(rt; refused, Some(wanted), "at {words:?}");
+        let read = format!(in alloc; "{:?}", read_words(alloc, words))?;
+        if read.as_str() != wanted {
+            return Ok(Some(place));
+        }
     }
+    Ok(None)
+}
+
+#[test]
+fn words_are_read_so(rt: HostRuntime) -> Result<(), Fail> {
+    assert_eq!(rt; first_wrong_read(rt.alloc())?, None);
     Ok(())
+}
+
+/// The stamps and the slots of two keys, and whether the first key comes before the second.
+const ORDERS: [(u64, u32, u64, u32, bool); 6] = [
+    (0, 1, 0, 2, true),
+    (0, 2, 0, 1, false),
+    (0, 2, 1, 0, true),
+    (1, 0, 0, 2, false),
+    (1, 7, 1, 7, false),
+    (1, 7, 2, 3, true),
+];
+
+/// The first case in which keys are in another order.
+fn first_wrong_order() -> Option<usize> {
+    for place in 0..ORDERS.len() {
+        let (stamp, slot, other_stamp, other_slot, wanted) = ORDERS[place];
+        let key = Key { stamp, slot };
+        let other = Key {
+            stamp: other_stamp,
+            slot: other_slot,
+        };
+        if key.is_below(other) != wanted {
+            return Some(place);
+        }
+    }
+    None
 }
 
 #[test]
 fn keys_are_in_the_order_of_stamps_then_slots(rt: HostRuntime) -> Result<(), Fail> {
-    let keys = [(0, 1), (0, 2), (1, 0), (1, 7), (2, 3)];
-    for (i, (stamp, slot)) in keys.iter().enumerate() {
-        let a = Key {
-            stamp: *stamp,
-            slot: *slot,
-        };
-        for (j, (stamp, slot)) in keys.iter().enumerate() {
-            let b = Key {
-                stamp: *stamp,
-                slot: *slot,
-            };
-            assert_eq!(rt; a.is_below(b), i < j);
-            assert_eq!(rt; a < b, i < j);
-        }
-    }
+    assert_eq!(rt; first_wrong_order(), None);
     Ok(())
 }
 
