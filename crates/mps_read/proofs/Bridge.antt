@@ -1,15 +1,15 @@
-use Rattle.std.proofs.Common.{◌≡◌, ◌∙◌, ℕ, ◌+◌, ◌==◌, Bool, true, false, not, ◌||◌, ◌&&◌, List, [], ◌∷◌, ◌++◌, Option, Some, None, refl, sym, ap, arith, if◌then◌else◌}
+use Rattle.std.proofs.Common.{◌≡◌, ◌∙◌, ℕ, ◌+◌, Bool, true, false, not, ◌||◌, ◌&&◌, List, [], ◌∷◌, Option, Some, None, refl, sym, ap, arith, if◌then◌else◌}
 use Rattle.std.specs.Str.{bytes_eq}
 use Rattle.std.proofs.lemmas.Bool.{false≢true, true≢false}
 use Rattle.mps_lines.specs.Lines.{lines_of}
-use Rattle.mps_read.specs.Names.{is_among, place_among, is_long}
+use Rattle.mps_read.specs.Names.{is_among, place_among}
 use Rattle.mps_lines.specs.Forms.{Form, Pair, Blank, Spoilt, Head, UnknownHead, Stray, Miscounted, SenseLine, FreeRow, KeptRow, UntypedRow, Marker, UnknownMarker, Entries, Values, BoundLine, UntypedBound, form_of, is_end, has_numeral}
 use Rattle.mps_read.specs.Numerals.{is_numeral}
 use Rattle.mps_read.specs.Headers.{section_of, has_sense_line_of}
 use Rattle.mps_read.specs.Sets.{is_used, set_of, bound_set_of, pairs_in, is_named}
 use Rattle.mps_read.specs.Rows.{row_names_of, objective_of, kept_names_of, is_objective, is_single}
 use Rattle.mps_read.specs.Columns.{column_names_of, pairs_of}
-use Rattle.mps_read.specs.Kinds.{all_pairs, is_pair_numeral, is_known_pair, is_repeated, repeats, is_split_column, kind_of}
+use Rattle.mps_read.specs.Kinds.{all_pairs, is_pair_numeral, is_known_pair, is_repeated, repeats, kind_of}
 use Rattle.mps_read.specs.Readings.{Reading, Read, outcome, model_of, judge, reading}
 use Rattle.mps_read.specs.DraftRows.{fresh_state, state_at, is_tested}
 use Rattle.mps_read.specs.DraftKinds.{has_mark, has_value, is_same_row, repeats_in, draft_kind}
@@ -28,7 +28,7 @@ use Rattle.mps_lines.proofs.Truths.{by_case, and_true, none_else}
 use Rattle.mps_read.proofs.PrintNames.{place_absent}
 use Rattle.mps_read.proofs.Lookups.{map_at, eq_of, bytes_eq-turn}
 use Rattle.mps_read.proofs.SaidNames.{and_none, places_eq, named_push}
-use Rattle.mps_read.proofs.SaidRows.{states_said, state_said, tested_said}
+use Rattle.mps_read.proofs.SaidRows.{state_said, tested_said}
 use Rattle.mps_read.proofs.Standing.{draft_of, IsLawful, first_lawful}
 use Rattle.mps_read.proofs.Following.{Follows, AreSecond, free_follows, row_follows, entries_follow, values_skipped, values_follow, bound_skipped, bound_follows}
 

@@ -1,24 +1,23 @@
-use Rattle.std.proofs.Common.{◌≡◌, ◌∙◌, ◌+◌, ℕ, Bool, true, false, not, ◌||◌, ◌&&◌, List, [], ◌∷◌, ◌++◌, length, map, Option, Some, None, refl, sym, ap, subst, if◌then◌else◌}
+use Rattle.std.proofs.Common.{◌≡◌, ◌∙◌, ◌+◌, ℕ, Bool, true, false, not, ◌&&◌, List, [], ◌∷◌, ◌++◌, length, map, Option, Some, None, refl, sym, ap, subst, if◌then◌else◌}
 use Rattle.std.specs.Str.{bytes_eq}
 use Rattle.std.proofs.lemmas.Bool.{false≢true, true≢false}
 use Rattle.std.proofs.lemmas.List.{append_assoc, map-append, length-map}
 use Rattle.ip_core.specs.Decimals.{Number, negation}
-use Rattle.mps_model.specs.Numbers.{zero_decimal, is_zero}
+use Rattle.mps_model.specs.Numbers.{is_zero}
 use Rattle.mps_model.specs.declared.model.RowKind.{RowKind}
 use Rattle.mps_model.specs.declared.model.MpsRow.{MpsRow}
 use Rattle.mps_model.specs.declared.model.MpsCol.{MpsCol}
-use Rattle.mps_model.specs.declared.model.MpsEntry.{MpsEntry}
 use Rattle.mps_read.specs.Names.{is_among, place_among, with_item, with_name}
 use Rattle.mps_read.specs.Numerals.{decimal_of}
 use Rattle.mps_lines.specs.Forms.{Form, Pair, FreeRow, KeptRow, Entries, Values, BoundLine}
 use Rattle.mps_read.specs.Headers.{has_section}
 use Rattle.mps_model.specs.Prints.{fresh_row}
-use Rattle.mps_read.specs.Sets.{is_used, first_name, set_of, bound_set_of, pairs_in, pairs_on, is_named, number_of, number_or_zero}
+use Rattle.mps_read.specs.Sets.{is_used, first_name, set_of, bound_set_of, pairs_in, pairs_on, is_named, number_or_zero}
 use Rattle.mps_read.specs.Rows.{RowLine, row_names_of, objective_of, kept_rows_of, kept_names_of, is_objective, is_single, objective_number, row_of, rows_of, constant_of}
-use Rattle.mps_read.specs.Columns.{Bound, column_names_of, pairs_of, bounds_of, begins_integer, is_integer_of, entries_of, low_of, high_of, is_made_integer, column_of, cols_of}
+use Rattle.mps_read.specs.Columns.{Bound, column_names_of, pairs_of, bounds_of, begins_integer, is_integer_of, entries_of, column_of, cols_of}
 use Rattle.mps_read.specs.Kinds.{is_repeated, repeats}
-use Rattle.mps_read.specs.DraftRows.{fresh_state, free_place, state_at, with_marked_state, with_value, with_constant, place_of_pair}
-use Rattle.mps_read.specs.DraftColumns.{fresh_column, with_coefficient, with_mark, with_bound}
+use Rattle.mps_read.specs.DraftRows.{fresh_state, free_place, with_marked_state, with_value, with_constant, place_of_pair}
+use Rattle.mps_read.specs.DraftColumns.{fresh_column, with_coefficient, with_mark}
 use Rattle.mps_read.specs.Steps.{after, after_pairs, after_bound, after_value_pair, with_values_set}
 use Rattle.mps_lines.specs.declared.section.Section.TheVariants.{Rhs, Ranges, Bounds}
 use Rattle.mps_lines.specs.declared.section.ValueKind.{ValueKind}
@@ -32,11 +31,10 @@ use Rattle.mps_read.specs.declared.draft.RowState.{RowState}
 use Rattle.mps_read.specs.declared.draft.SetUse.{SetUse}
 use Rattle.mps_lines.proofs.Truths.{by_case, or_false}
 use Rattle.mps_read.proofs.DraftParts.{longer}
-use Rattle.mps_read.proofs.Naming.{list_any_images}
 use Rattle.mps_read.proofs.PrintNames.{same_bytes, place_absent, place_first}
 use Rattle.mps_read.proofs.ModelLists.{among_last}
 use Rattle.mps_read.proofs.Lookups.{IsSingle, map_all, map_at, eq_of, bytes_eq-turn}
-use Rattle.mps_read.proofs.SaidNames.{or_same, and_none, apart_with, AreKnown, known_push, among_other, place_known, single_names, not_named, number_none}
+use Rattle.mps_read.proofs.SaidNames.{and_none, apart_with, AreKnown, known_push, among_other, place_known, single_names, not_named, number_none}
 use Rattle.mps_read.proofs.SaidRows.{states_said, state_said, place_said, free_states, kept_states, kept_rows, side_states, range_states, side_rows, range_rows, side_constant}
 use Rattle.mps_read.proofs.SaidColumns.{column_same, coefficient, column_push, bound_columns, ints_with}
 use Rattle.mps_read.proofs.Standing.{draft_of, names_in, AreLawful, IsLawful, new_objective, new_kept, free_lawful, row_lawful, sides_lawful, ranges_lawful, bounds_lawful, column_lawful, entry_lawful}

@@ -1,4 +1,4 @@
-use Rattle.std.proofs.Common.{◌≡◌, ◌∙◌, ◌≤◌, ◌<◌, ◌+◌, ◌==◌, ℕ, Bool, true, false, not, ◌||◌, ◌&&◌, List, [], ◌∷◌, ◌++◌, length, map, slice_set, Option, Some, None, refl, sym, ap, arith, if◌then◌else◌}
+use Rattle.std.proofs.Common.{◌≡◌, ◌∙◌, ◌<◌, ◌==◌, ℕ, Bool, true, false, not, ◌||◌, ◌&&◌, List, [], ◌∷◌, ◌++◌, map, Option, Some, None, refl, sym, ap, if◌then◌else◌}
 use Rattle.std.specs.Str.{bytes_eq}
 use Rattle.std.proofs.lemmas.Bool.{false≢true}
 use Rattle.ip_core.specs.Decimals.{Number}
@@ -9,9 +9,9 @@ use Rattle.mps_model.specs.declared.model.MpsCol.{MpsCol}
 use Rattle.mps_read.specs.Names.{is_among, place_among, with_item, with_name}
 use Rattle.mps_read.specs.Numerals.{decimal_of}
 use Rattle.mps_lines.specs.Forms.{Pair}
-use Rattle.mps_read.specs.Sets.{is_named, number_or_zero}
+use Rattle.mps_read.specs.Sets.{is_named}
 use Rattle.mps_read.specs.Rows.{is_objective, is_single, objective_number}
-use Rattle.mps_read.specs.Columns.{Bound, entries_of, low_of, high_of, is_made_integer, column_of}
+use Rattle.mps_read.specs.Columns.{Bound, entries_of, low_of, high_of, column_of}
 use Rattle.mps_read.specs.DraftRows.{is_tested}
 use Rattle.mps_read.specs.DraftColumns.{fresh_column, with_entry, with_coefficient, bounded_column, with_bound, with_mark}
 use Rattle.mps_read.specs.DraftKinds.{has_mark}
@@ -24,8 +24,8 @@ use Rattle.mps_lines.proofs.Truths.{by_case}
 use Rattle.mps_read.proofs.Marks.{has_mark-push, not_eq}
 use Rattle.mps_read.proofs.PrintNames.{same_bytes}
 use Rattle.mps_read.proofs.Lookups.{IsSingle, map_all, map_change, eq_of, bytes_eq-turn}
-use Rattle.mps_read.proofs.SaidNames.{or_same, and_none, place_less, places_eq, named_push}
-use Rattle.mps_read.proofs.SaidRows.{place_said, tested_said, place_by_test, first_unnamed, unnamed_objective, images_push, objective_other, objective_here}
+use Rattle.mps_read.proofs.SaidNames.{or_same, and_none, places_eq, named_push}
+use Rattle.mps_read.proofs.SaidRows.{place_said, tested_said, place_by_test, unnamed_objective, images_push, objective_other, objective_here}
 
 -- what lines say of columns, as the reader keeps it
 

@@ -1,5 +1,4 @@
-use Rattle.std.proofs.Common.{◌≡◌, ◌∙◌, ◌≤◌, ◌<◌, ◌+◌, ◌==◌, ℕ, zero, suc, Bool, true, false, not, ◌||◌, ◌&&◌, cond, List, [], ◌∷◌, ◌++◌, length, map, slice_index_or, Option, Some, None, refl, sym, ap, arith, if◌then◌else◌}
-use Rattle.std.specs.List.{list_any, position_or_len}
+use Rattle.std.proofs.Common.{◌≡◌, ◌∙◌, ◌<◌, ◌+◌, ◌==◌, ℕ, suc, Bool, true, false, not, ◌||◌, ◌&&◌, cond, List, [], ◌∷◌, ◌++◌, length, map, slice_index_or, Some, None, refl, sym, ap, arith, if◌then◌else◌}
 use Rattle.std.specs.Str.{bytes_eq}
 use Rattle.std.proofs.lemmas.Bool.{false≢true}
 use Rattle.std.proofs.lemmas.Bool.Decides.{nat_tests}
@@ -11,9 +10,9 @@ use Rattle.mps_read.specs.Sets.{is_named, number_of}
 use Rattle.mps_lines.proofs.Truths.{by_case, or_false}
 use Rattle.mps_read.proofs.Marks.{same_eq}
 use Rattle.mps_read.proofs.Naming.{list_any_images}
-use Rattle.mps_read.proofs.PrintNames.{place_by, differ, same_bytes, place_absent, with_new, with_known}
+use Rattle.mps_read.proofs.PrintNames.{place_by, differ, same_bytes}
 use Rattle.mps_read.proofs.ModelLists.{Misses, AreApart, apart_push, misses_names}
-use Rattle.mps_read.proofs.Lookups.{or_second, IsSingle, eq_of, bytes_eq-turn}
+use Rattle.mps_read.proofs.Lookups.{or_second, IsSingle, eq_of}
 
 -- names and the pairs that name rows
 

@@ -1,5 +1,5 @@
-use Rattle.std.proofs.Common.{◌≡◌, ◌∙◌, ◌+◌, ℕ, Bool, true, false, ◌||◌, ◌&&◌, List, [], ◌∷◌, ◌++◌, length, map, slice_set, slice_index_or, Option, Some, None, refl, sym, ap, if◌then◌else◌}
-use Rattle.std.specs.List.{list_any, position_or_len}
+use Rattle.std.proofs.Common.{◌≡◌, ◌∙◌, ℕ, Bool, true, false, ◌||◌, ◌&&◌, List, [], ◌∷◌, ◌++◌, length, map, slice_set, slice_index_or, Option, Some, None, refl, sym, ap, if◌then◌else◌}
+use Rattle.std.specs.List.{position_or_len}
 use Rattle.std.specs.Str.{bytes_eq}
 use Rattle.std.proofs.lemmas.Bool.{false≢true}
 use Rattle.std.proofs.lemmas.List.{map-append}
@@ -18,11 +18,11 @@ use Rattle.mps_lines.specs.declared.section.ValueKind.TheVariants.{Side, Range}
 use Rattle.mps_read.specs.declared.draft.RowPlace.{RowPlace}
 use Rattle.mps_read.specs.declared.draft.RowPlace.TheVariants.{Objective, Dropped, Kept}
 use Rattle.mps_read.specs.declared.draft.RowState.{RowState}
-use Rattle.mps_lines.proofs.Truths.{by_case, or_false}
+use Rattle.mps_lines.proofs.Truths.{by_case}
 use Rattle.mps_read.proofs.Naming.{list_any_images, position_images}
 use Rattle.mps_read.proofs.PrintNames.{same_bytes, place_first}
-use Rattle.mps_read.proofs.Lookups.{IsSingle, map_all, map_same, map_change, eq_of, bytes_eq-turn}
-use Rattle.mps_read.proofs.SaidNames.{or_same, and_none, among_push, among_other, place_known, single_images, named_other, named_here, number_none, number_other, number_here}
+use Rattle.mps_read.proofs.Lookups.{IsSingle, map_same, map_change, eq_of, bytes_eq-turn}
+use Rattle.mps_read.proofs.SaidNames.{and_none, among_push, among_other, place_known, single_images, named_other, named_here, number_none, number_other, number_here}
 
 -- what lines say of rows, as the reader keeps it
 

@@ -1,4 +1,4 @@
-use Rattle.std.proofs.Common.{◌≡◌, ◌∙◌, ◌≤◌, ◌+◌, ℕ, Bool, true, false, not, ◌||◌, ◌&&◌, List, [], ◌∷◌, ◌++◌, length, map, Option, Some, None, refl, sym, ap, subst, arith, if◌then◌else◌}
+use Rattle.std.proofs.Common.{◌≡◌, ◌∙◌, ◌≤◌, ℕ, true, false, ◌||◌, ◌&&◌, List, [], ◌∷◌, ◌++◌, length, map, Option, Some, None, refl, sym, ap, subst, arith}
 use Rattle.std.specs.Str.{bytes_eq}
 use Rattle.std.proofs.lemmas.Bool.{false≢true}
 use Rattle.std.proofs.lemmas.List.{map-append}
@@ -17,10 +17,10 @@ use Rattle.mps_read.specs.declared.draft.Draft.{Draft}
 use Rattle.mps_read.specs.declared.draft.Mark.{Mark}
 use Rattle.mps_lines.proofs.Truths.{by_case, or_false}
 use Rattle.mps_read.proofs.DraftParts.{longer}
-use Rattle.mps_read.proofs.PrintNames.{same_bytes, place_first, with_new, with_known}
+use Rattle.mps_read.proofs.PrintNames.{place_first, with_new, with_known}
 use Rattle.mps_read.proofs.ModelLists.{AreApart, AreAmong, apart_push, misses_names, misses_among, among_more, among_last, among_push as all_among_push}
-use Rattle.mps_read.proofs.Lookups.{or_second, eq_of, bytes_eq-turn}
-use Rattle.mps_read.proofs.SaidNames.{and_none, among_push, among_other, among_known, place_known, place_less, not_among, apart_with, AreKnown, known_more, known_push, not_named}
+use Rattle.mps_read.proofs.Lookups.{eq_of, bytes_eq-turn}
+use Rattle.mps_read.proofs.SaidNames.{and_none, among_push, among_other, among_known, place_known, place_less, not_among, AreKnown, known_more, known_push, not_named}
 use Rattle.mps_read.proofs.SaidRows.{states_said, place_said, other_objective}
 use Rattle.mps_read.proofs.SaidColumns.{mark_past_row, mark_past_column, mark_more}
 

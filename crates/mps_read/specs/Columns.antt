@@ -1,5 +1,5 @@
 -- What the lines so far say of columns. They stand newest first.
-use Rattle.std.specs.Prelude.{ℕ, Bool, true, false, not, ◌&&◌, ◌||◌, List, [], ◌∷◌, ◌++◌, map, Option, Some, None, if◌then◌else◌}
+use Rattle.std.specs.Prelude.{ℕ, Bool, true, false, not, ◌&&◌, ◌||◌, List, [], ◌∷◌, ◌++◌, map, Option, if◌then◌else◌}
 use Rattle.std.specs.Str.{bytes_eq}
 use Rattle.ip_core.specs.Decimals.{Number, negation}
 use Rattle.mps_model.specs.Numbers.{zero_decimal, is_zero, is_infinite}

@@ -1,5 +1,5 @@
 -- What the lines so far say of rows. They stand newest first.
-use Rattle.std.specs.Prelude.{ℕ, Bool, true, false, ◌||◌, List, [], ◌∷◌, ◌++◌, map, Option, Some, None}
+use Rattle.std.specs.Prelude.{ℕ, Bool, false, ◌||◌, List, [], ◌∷◌, ◌++◌, map, Option, Some, None}
 use Rattle.std.specs.Str.{bytes_eq}
 use Rattle.ip_core.specs.Decimals.{Number, negation}
 use Rattle.mps_model.specs.Numbers.{zero_decimal}
