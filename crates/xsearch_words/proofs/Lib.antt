@@ -1,5 +1,6 @@
 pub mod Examples
 pub mod Keys
+pub mod OutputWrites
 pub mod PieceWrites
 pub mod Risen
 pub mod WholeReads

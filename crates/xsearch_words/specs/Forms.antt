@@ -43,8 +43,8 @@ is_known keys word = is_name word || list_any (gives_value word) keys
 abbrev pub is_single : List (List ℕ) → Key → Bool
 is_single words key = nat_le (length (values key words)) 1
 
--- The words have the command's form: each is a name or gives one of its keys a value, there are as many names as it has,
--- and each of its keys has at most one value.
+-- The words have the command's form: each is a name or gives one of its keys a value, there are as
+-- many names as it has, and each of its keys has at most one value.
 abbrev pub has_form : Command → List (List ℕ) → Bool
 has_form command words = list_all (is_known (keys_of command)) words && length (names words) ==
     name_count command && list_all (is_single words) (keys_of command)

@@ -9,6 +9,7 @@ pub mod MemoryShelf
 pub mod MemorySink
 pub mod Numbers
 pub mod Options
+pub mod Outputs
 pub mod Shelf
 pub mod Sink
 pub mod StdoutSink

@@ -16,7 +16,8 @@ abbrev pub number_between : ℕ → ℕ → List ℕ → Option ℕ
 number_between least greatest digits = if is_numeral digits
     && is_between least greatest (decimal 0 digits) then Some (decimal 0 digits) else None
 
--- the number of an option's value, or else this one where the option isn't given. None where the value is no such number.
+-- The number of an option's value, or else this one where the option isn't given. None where the
+-- value is no such number.
 abbrev pub number_or : ℕ → ℕ → ℕ → Option (List ℕ) → Option ℕ
 number_or without least greatest None = Some without
 number_or without least greatest (Some value) = number_between least greatest value

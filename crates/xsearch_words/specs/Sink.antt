@@ -1,9 +1,8 @@
 -- What a sink and its answers tell.
-use Rattle.std.specs.Prelude.{ℕ, ◌≡◌, ◌≤◌, Bool, true, false, if◌then◌else◌, List, ◌++◌, length, take, Option, Result, Ok, Err}
+use Rattle.std.specs.Prelude.{ℕ, ◌≡◌, ◌≤◌, if◌then◌else◌, List, ◌++◌, length, take, Option, Result}
 use Rattle.std.specs.Option.{option_map}
-use Rattle.xsearch_words.specs.Faults.{next_count}
+use Rattle.xsearch_words.specs.Faults.{next_count, write_failed}
 use Rattle.xsearch_words.specs.declared.error.WriteError.{WriteError}
-use Rattle.xsearch_words.specs.declared.error.WriteError.TheVariants.{Failed, Memory}
 
 -- what a sink tells: the bytes gone out, where it tells them, and its counts of faults and of calls
 pub record SinkState : Type 0 where
@@ -11,7 +10,7 @@ pub record SinkState : Type 0 where
   pub faults : ℕ
   pub calls : ℕ
 
--- Where the bytes gone out are told, these bytes were appended. Where they weren't told, they aren't told now.
+-- where the bytes gone out are told, these were appended; where they weren't, they aren't told now
 abbrev pub GrowsBy : Option (List ℕ) → Option (List ℕ) → List ℕ → Type 0
 GrowsBy old new bytes = new ≡ option_map (λ out. out ++ bytes) old
 
@@ -20,12 +19,6 @@ pub record GrowsByFront (old new : Option (List ℕ)) (bytes : List ℕ) : Type 
   pub count : ℕ
   pub within : count ≤ length bytes
   pub front : GrowsBy old new (take count bytes)
-
--- whether the answer is that the call failed
-abbrev pub write_failed : {A : Type 0} → Result A WriteError → Bool
-write_failed (Ok _) = false
-write_failed (Err Failed) = true
-write_failed (Err Memory) = false
 
 -- the count of faults after a call, which counts nothing but a failure
 abbrev pub count_after_write : {A : Type 0} → ℕ → Result A WriteError → ℕ

@@ -43,6 +43,16 @@ impl From<OutOfMemory> for WriteError {
     }
 }
 
+/// Why files weren't all written.
+#[derive(Clone, Copy, Debug, PartialEq, Eq, Error)]
+pub enum OutputError {
+    /// The write of the file at this place among them failed.
+    #[error("the write of file {place} failed")]
+    Failed { place: usize },
+    #[error("out of memory")]
+    Memory,
+}
+
 /// Why words give no job.
 #[derive(Clone, Copy, Debug, PartialEq, Eq, Error)]
 pub enum JobError {

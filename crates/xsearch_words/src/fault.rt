@@ -12,7 +12,7 @@ pub struct LastFault {
 }
 
 impl LastFault {
-    ghost use Rattle.xsearch_words.specs.Faults.{failed_read};
+    ghost use Rattle.xsearch_words.specs.Faults.{failed_read, failed_write};
 
     /// A read of this name, kept ready before the call so that a fault takes no memory.
     pub(crate) fn of_read(alloc: Global, name: &Text) -> Result<LastFault, OutOfMemory>
@@ -20,6 +20,16 @@ impl LastFault {
     {
         Ok(LastFault {
             write: false,
+            name: name.copy(alloc)?,
+        })
+    }
+
+    /// The same of a write.
+    pub(crate) fn of_write(alloc: Global, name: &Text) -> Result<LastFault, OutOfMemory>
+        ensures { IfOk result (λ fault. fault ≡ failed_write name.now) }
+    {
+        Ok(LastFault {
+            write: true,
             name: name.copy(alloc)?,
         })
     }

@@ -13,7 +13,7 @@ pub(crate) struct FileMap {
 }
 
 impl FileMap {
-    ghost use Rattle.xsearch_words.specs.Files.{SetsFile, files_in, no_files};
+    ghost use Rattle.xsearch_words.specs.Files.{files_in, no_files, with_file};
 
     /// No files.
     pub(crate) fn new(alloc: Global) -> FileMap
@@ -26,11 +26,27 @@ impl FileMap {
 
     /// Makes the file of a name hold these bytes. After a refusal the files are as before.
     pub(crate) fn set(&mut self, name: Text, bytes: List<u8>) -> Result<(), OutOfMemory>
-        ensures ok { OnOk result (SetsFile (files_in self.old) (files_in self.new) name bytes) }
+        ensures ok { OnOk result (files_in self.new ≡ with_file name bytes (files_in self.old)) }
         ensures err { OnErr result (files_in self.new ≡ files_in self.old) }
     {
         self.files.insert(name.into_vec(), bytes)?;
         Ok(())
+    }
+
+    /// The same of copies.
+    pub(crate) fn write(
+        &mut self,
+        alloc: Global,
+        name: &Text,
+        bytes: &[u8],
+    ) -> Result<(), OutOfMemory>
+        ensures ok { OnOk result
+            (files_in self.new ≡ with_file name.now bytes.now (files_in self.old)) }
+        ensures err { OnErr result (files_in self.new ≡ files_in self.old) }
+    {
+        let name = name.copy(alloc)?;
+        let bytes = copy_bytes(alloc, bytes)?;
+        self.set(name, bytes)
     }
 
     /// The bytes of the file of a name, or None where the name has no file.

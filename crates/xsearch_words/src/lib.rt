@@ -1,5 +1,5 @@
-//! The outside of the program: the words of the command line, shelves of files that are read by
-//! name, and sinks that take text.
+//! The outside of the program: the words of the command line, shelves of files that are read and
+//! written by name, and sinks that take text.
 //!
 //! A shelf or a sink in memory tells contracts what it holds. The shelf of real files and the sink
 //! over the standard output tell nothing of that, and are trusted.
@@ -16,6 +16,7 @@ mod job;
 mod memory_shelf;
 mod memory_sink;
 mod number;
+mod output;
 mod shelf;
 mod sink;
 mod stdout_sink;
@@ -24,12 +25,13 @@ mod sure_shelf;
 mod sure_sink;
 mod tune;
 
-pub use error::{JobError, ShelfError, WriteError};
+pub use error::{JobError, OutputError, ShelfError, WriteError};
 pub use fault::LastFault;
 pub use file_shelf::FileShelf;
 pub use job::{Job, SolveJob, settings};
 pub use memory_shelf::MemoryShelf;
 pub use memory_sink::MemorySink;
+pub use output::{OutputFile, write_all};
 pub use shelf::Shelf;
 pub use sink::Sink;
 pub use stdout_sink::StdoutSink;

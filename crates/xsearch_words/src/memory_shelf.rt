@@ -1,14 +1,14 @@
-ghost use Rattle.std.specs.Prelude.{◌≡◌, ◌<◌, ◌≤◌, Some, length, IfOk, OnOk, OnErr, IsErrOf};
+ghost use Rattle.std.specs.Prelude.{◌≡◌, ◌<◌, ◌≤◌, Some, length, take, IfOk, OnOk, OnErr, IsErrOf};
 ghost use Rattle.std.specs.Option.{option_copied};
-ghost use Rattle.xsearch_words.specs.Faults.{ShowsFailure, failed_read, no_faults};
-ghost use Rattle.xsearch_words.specs.Files.{SetsFile, contents, no_files};
-ghost use Rattle.xsearch_words.specs.Calls.{after_call, no_calls};
-ghost use Rattle.xsearch_words.specs.Shelf.{HasNoFault, log_after_read, read_failed};
+ghost use Rattle.xsearch_words.specs.Faults.{ShowsFailure, failed_read, failed_write, no_faults, read_failed, write_failed};
+ghost use Rattle.xsearch_words.specs.Files.{MaySetFront, contents, no_files, with_file};
+ghost use Rattle.xsearch_words.specs.Calls.{after_call, next_fails, no_calls};
+ghost use Rattle.xsearch_words.specs.Shelf.{HasNoFault, log_after_read, log_after_write};
 
 use crate::calls::Calls;
 use crate::fault::FaultLog;
 use crate::files::{FileMap, copy_file};
-use crate::{LastFault, Shelf, ShelfError};
+use crate::{LastFault, Shelf, ShelfError, WriteError};
 use ip_core::{List, OutOfMemory, Text};
 use std::alloc::Global;
 
@@ -39,7 +39,7 @@ impl MemoryShelf {
 
     /// Makes the file of a name hold these bytes. It isn't numbered among the calls.
     pub fn set(&mut self, name: Text, bytes: List<u8>) -> Result<(), OutOfMemory>
-        ensures ok { OnOk result (SetsFile (files_of self.old) (files_of self.new) name bytes) }
+        ensures ok { OnOk result (files_of self.new ≡ with_file name bytes (files_of self.old)) }
         ensures err { OnErr result (files_of self.new ≡ files_of self.old) }
         ensures calls { calls_of self.new ≡ calls_of self.old }
         ensures faults { faults_of self.new ≡ faults_of self.old }
@@ -101,5 +101,36 @@ impl Shelf for MemoryShelf {
                 Err(ShelfError::Failed)
             }
         }
+    }
+
+    fn write(&mut self, alloc: Global, name: &Text, bytes: &[u8]) -> Result<(), WriteError>
+        ensures ok { OnOk result
+            (files_of self.new ≡ with_file name.now bytes.now (files_of self.old)) }
+        ensures failed { IsErrOf result WriteError.Failed →
+            ShowsFailure (faults_of self.old) (faults_of self.new) (failed_write name.now) }
+        ensures front { IsErrOf result WriteError.Failed →
+            MaySetFront (Some (files_of self.old)) (Some (files_of self.new)) name.now bytes.now }
+        ensures memory { IsErrOf result WriteError.Memory → files_of self.new ≡ files_of self.old }
+        ensures quiet { ¬ IsErrOf result WriteError.Failed →
+            HasNoFault (state_of self.old) (state_of self.new) }
+        ensures count { (faults_of self.old).count ≤ (faults_of self.new).count }
+
+        // Want of memory aside, it fails exactly where its call is to fail, and sets first bytes.
+        ensures fails { ¬ IsErrOf result WriteError.Memory →
+            write_failed result ≡ next_fails (calls_of self.old) }
+        ensures first { IsErrOf result WriteError.Failed → files_of self.new ≡
+            with_file name.now (take (calls_of self.old).first bytes.now) (files_of self.old) }
+        ensures calls { calls_of self.new ≡ after_call (calls_of self.old) }
+        ensures faults { faults_of self.new ≡ log_after_write (faults_of self.old) name.now result }
+    {
+        let fails = self.calls.next();
+        let fault = LastFault::of_write(alloc, name)?;
+        if fails {
+            self.files.write(alloc, name, self.calls.front(bytes))?;
+            self.faults.report(fault);
+            return Err(WriteError::Failed);
+        }
+        self.files.write(alloc, name, bytes)?;
+        Ok(())
     }
 }

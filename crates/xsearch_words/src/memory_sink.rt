@@ -1,7 +1,7 @@
 ghost use Rattle.std.specs.Prelude.{◌≡◌, ◌≤◌, [], Some, ◌++◌, take, OnOk, IsErrOf};
-ghost use Rattle.xsearch_words.specs.Faults.{HasRisen};
+ghost use Rattle.xsearch_words.specs.Faults.{HasRisen, write_failed};
 ghost use Rattle.xsearch_words.specs.Calls.{after_call, next_fails, no_calls};
-ghost use Rattle.xsearch_words.specs.Sink.{GrowsByFront, count_after_write, write_failed};
+ghost use Rattle.xsearch_words.specs.Sink.{GrowsByFront, count_after_write};
 
 use crate::calls::Calls;
 use crate::{Sink, WriteError};
@@ -64,7 +64,7 @@ impl Sink for MemorySink {
             faults_of self.new ≡ faults_of self.old }
         ensures count { faults_of self.old ≤ faults_of self.new }
 
-        // Want of memory aside, it fails exactly where its call is to fail. Its first bytes go out then.
+        // Want of memory aside, it fails exactly where its call is to fail, and first bytes go out.
         ensures fails { ¬ IsErrOf result WriteError.Memory →
             write_failed result ≡ next_fails (calls_of self.old) }
         ensures first { IsErrOf result WriteError.Failed →

@@ -50,6 +50,25 @@ pub(crate) fn read_to_end<F: Read + Drop>(
     }
 }
 
+/// Writes bytes to what was opened, and gives it back. What could not be opened is a failure.
+pub(crate) fn write_opened<F: Write + Drop>(
+    opened: io::Result<F>,
+    bytes: &[u8],
+) -> Result<F, WriteError>
+    ensures whole { IfOk opened (λ file. IfOk result (λ written.
+        Appends (F.contents file) (F.contents written) bytes.now)) }
+    ensures unopened { IsErr opened → IsErrOf result WriteError.Failed }
+    ensures memory { ¬ IsErrOf result WriteError.Memory }
+{
+    let Ok(mut file) = opened else {
+        return Err(WriteError::Failed);
+    };
+    match write_out(&mut file, bytes) {
+        Ok(()) => Ok(file),
+        Err(error) => Err(error),
+    }
+}
+
 /// Writes bytes in as many pieces as the writer takes.
 ///
 /// # Errors

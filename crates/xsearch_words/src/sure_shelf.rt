@@ -1,9 +1,9 @@
 ghost use Rattle.std.specs.Prelude.{◌≡◌, ◌<◌, ◌≤◌, None, Some, length, IfOk, OnOk, OnErr, IsErrOf};
 ghost use Rattle.std.specs.Option.{option_copied};
-ghost use Rattle.xsearch_words.specs.Files.{SetsFile, contents, no_files};
+ghost use Rattle.xsearch_words.specs.Files.{contents, no_files, with_file};
 
 use crate::files::{FileMap, copy_file};
-use crate::{Shelf, ShelfError};
+use crate::{Shelf, ShelfError, WriteError};
 use ip_core::{List, OutOfMemory, Text};
 use std::alloc::Global;
 
@@ -29,7 +29,7 @@ impl SureShelf {
 
     /// Makes the file of a name hold these bytes. After a refusal the files are as before.
     pub fn set(&mut self, name: Text, bytes: List<u8>) -> Result<(), OutOfMemory>
-        ensures ok { OnOk result (SetsFile (files_of self.old) (files_of self.new) name bytes) }
+        ensures ok { OnOk result (files_of self.new ≡ with_file name bytes (files_of self.old)) }
         ensures err { OnErr result (files_of self.new ≡ files_of self.old) }
     {
         self.files.set(name, bytes)
@@ -54,5 +54,11 @@ impl Shelf for SureShelf {
             Some(bytes) => copy_file(alloc, bytes, most),
             None => Ok(List::new(alloc)),
         }
+    }
+
+    fn write(&mut self, alloc: Global, name: &Text, bytes: &[u8]) -> Result<(), WriteError> {
+        self.calls = self.calls.saturating_add(1);
+        self.files.write(alloc, name, bytes)?;
+        Ok(())
     }
 }

@@ -1,10 +1,10 @@
 use super::*;
-use crate::streams::{read_opened, read_to_end, write_out};
+use crate::streams::{read_opened, read_to_end, write_opened, write_out};
 use ip_core::{List, OutOfMemory, Text};
 use std::alloc::Global;
-use std::io;
 use std::io::{Error, ErrorKind, Read, Write};
 use std::test::Fail;
+use std::{fs, io};
 
 fn text(alloc: Global, bytes: &[u8]) -> Result<Text, OutOfMemory> {
     Ok(Text::of(Vec::from_slice(alloc, bytes)?))
@@ -87,6 +87,117 @@ fn a_sure_shelf_reads_a_missing_file_as_empty(rt: HostRuntime) -> Result<(), Fai
     ] {
         assert!(rt; reads(&mut shelf, alloc, name, most, want)?);
     }
+    Ok(())
+}
+
+// The files that are written below, in their order, with their texts.
+const TEXTS: [(&[u8], &[u8]); 3] = [(b"a", b"one"), (b"b", b"two"), (b"c", b"three")];
+
+fn outputs(alloc: Global) -> Result<Vec<OutputFile>, OutOfMemory> {
+    let mut outputs = Vec::new(alloc);
+    for (name, bytes) in TEXTS {
+        outputs.push(OutputFile {
+            name: text(alloc, name)?,
+            text: text(alloc, bytes)?,
+        })?;
+    }
+    Ok(outputs)
+}
+
+// Which call fails, where one does, how writing these files ends then, and what they hold.
+type Writes = (
+    &'static [u64],
+    Result<(), OutputError>,
+    [Option<&'static [u8]>; 3],
+);
+
+const WRITES: [Writes; 4] = [
+    (&[], Ok(()), [Some(b"one"), Some(b"two"), Some(b"three")]),
+    (
+        &[1],
+        Err(OutputError::Failed { place: 0 }),
+        [Some(b"on"), None, Some(b"old")],
+    ),
+    (
+        &[2],
+        Err(OutputError::Failed { place: 1 }),
+        [Some(b"one"), Some(b"tw"), Some(b"old")],
+    ),
+    (
+        &[3],
+        Err(OutputError::Failed { place: 2 }),
+        [Some(b"one"), Some(b"two"), Some(b"th")],
+    ),
+];
+
+// Whether the files are written so over a shelf of which these calls fail after two bytes, and
+// whose file c holds old.
+fn are_written(alloc: Global, writes: &Writes) -> Result<bool, OutOfMemory> {
+    let fails = List::of(Vec::from_slice(alloc, writes.0)?);
+    let mut shelf = MemoryShelf::new(alloc, fails, 2);
+    shelf.set(
+        text(alloc, b"c")?,
+        List::of(Vec::from_slice(alloc, b"old")?),
+    )?;
+    let end = write_all(alloc, outputs(alloc)?.as_slice(), &mut shelf);
+    for (place, (name, _text)) in TEXTS.iter().enumerate() {
+        if shelf.file(&text(alloc, name)?) != writes.2[place] {
+            return Ok(false);
+        }
+    }
+    Ok(end == writes.1 && shelf.faults() == writes.0.len() as u64)
+}
+
+#[test]
+fn files_are_written_up_to_the_one_that_fails(rt: HostRuntime) -> Result<(), Fail> {
+    for (place, writes) in WRITES.iter().enumerate() {
+        assert!(rt; are_written(rt.alloc(), writes)?, "at row {place}");
+    }
+    Ok(())
+}
+
+#[test]
+fn a_failed_write_is_the_last_fault(rt: HostRuntime) -> Result<(), Fail> {
+    let alloc = rt.alloc();
+    let mut shelf = memory_shelf(alloc)?;
+    let name = text(alloc, b"n")?;
+    assert!(rt; reads(&mut shelf, alloc, b"n", 3, Err(ShelfError::Failed))?);
+    shelf.write(alloc, &name, b"ab")?;
+    assert_eq!(rt; shelf.write(alloc, &name, b"cd"), Err(WriteError::Failed));
+    assert_eq!(rt; shelf.faults(), 2);
+    let fault = shelf
+        .last_fault()
+        .map(|fault| (fault.write, fault.name.as_slice()));
+    assert_eq!(rt; fault, Some((true, b"n".as_slice())));
+    Ok(())
+}
+
+#[test]
+fn a_sure_shelf_keeps_what_is_written(rt: HostRuntime) -> Result<(), Fail> {
+    let alloc = rt.alloc();
+    let mut shelf = sure_shelf(alloc)?;
+    write_all(alloc, outputs(alloc)?.as_slice(), &mut shelf)?;
+    for (name, bytes) in [TEXTS[0], TEXTS[2], (b"m".as_slice(), b"abc".as_slice())] {
+        assert!(rt; reads(&mut shelf, alloc, name, 9, Ok(bytes))?);
+    }
+    Ok(())
+}
+
+// A name that is no other file's where tests run.
+const FILE: &str = "xsearch_words_test";
+
+#[test]
+fn a_file_shelf_reads_what_it_wrote(rt: HostRuntime) -> Result<(), Fail> {
+    let alloc = rt.alloc();
+    let name = FILE.as_bytes();
+    let mut shelf = FileShelf::new(rt);
+    for bytes in [b"longer".as_slice(), b"abc".as_slice()] {
+        shelf.write(alloc, &text(alloc, name)?, bytes)?;
+        assert!(rt; reads(&mut shelf, alloc, name, 9, Ok(bytes))?);
+    }
+    fs::remove_file(&rt, FILE)?;
+    let unopened = shelf.write(alloc, &text(alloc, b"xsearch_words_test/a")?, b"ab");
+    assert_eq!(rt; unopened, Err(WriteError::Failed));
     Ok(())
 }
 
@@ -238,6 +349,19 @@ fn writers_take_all_bytes_or_a_front(rt: HostRuntime) -> Result<(), Fail> {
         assert_eq!(rt; write_out(&mut writer, b"abc"), want);
         assert_eq!(rt; writer.out.as_slice(), out);
     }
+    Ok(())
+}
+
+#[test]
+fn a_writer_that_is_not_open_takes_nothing(rt: HostRuntime) -> Result<(), Fail> {
+    let writer = ByteWriter {
+        out: Text::new(rt.alloc()),
+        room: 9,
+    };
+    let written = write_opened(Ok(writer), b"abc")?;
+    assert_eq!(rt; written.out.as_slice(), b"abc".as_slice());
+    let unopened: io::Result<ByteWriter> = Err(Error::from(ErrorKind::NotFound));
+    assert!(rt; matches!(&write_opened(unopened, b"abc"), Err(WriteError::Failed)));
     Ok(())
 }
 

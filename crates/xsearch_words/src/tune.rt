@@ -35,8 +35,8 @@ pub struct Tune {
 }
 
 impl Tune {
-    /// So many tasks with this work and store for each, or None where their stores together are above
-    /// the greatest store.
+    /// So many tasks with this work and store for each, or None where their stores together are
+    /// above the greatest store.
     fn of(tasks: u64, work: u64, store: u64) -> Option<Tune>
         requires some { 1 ≤ tasks }
         requires few { tasks ≤ 64 }
