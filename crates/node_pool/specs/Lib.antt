@@ -1,0 +1,10 @@
+pub mod BoundChanges
+pub mod Branchings
+pub mod Trees
+pub mod Nodes
+pub mod Views
+pub mod Picks
+pub mod Follows
+pub mod Laws
+pub mod Runs
+pub mod Lemmas

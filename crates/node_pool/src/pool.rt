@@ -1,0 +1,275 @@
+ghost use Rattle.std.specs.Prelude.{◌≡◌, false, nat_eq, IfOk, OnOk};
+ghost use Rattle.work_stamp.specs.declared.entry.Entry.TheVariants.{Start, Split};
+ghost use Rattle.node_pool.specs.Branchings.{box_of};
+ghost use Rattle.node_pool.specs.Follows.{CanJoin, HasNewSplit, HasRoom, IsFresh, IsNewSplit};
+ghost use Rattle.node_pool.specs.Nodes.{insert_open as insert_open_of, without_node};
+ghost use Rattle.node_pool.specs.Picks.{best_open as best_open_of, pick_of, wants_cuts as wants_cuts_of, wants_heuristic as wants_heuristic_of};
+ghost use Rattle.node_pool.specs.Views.{fresh_view, is_finished as is_finished_of, after_entry, with_effect, with_children};
+
+use crate::bound_change::apply_all;
+use crate::branching::Branching;
+use crate::node::{OpenNode, insert_open, remove_name};
+use crate::pick::Pick;
+use crate::settings::SearchSettings;
+use crate::tree::SearchTree;
+use ip_core::{Bounds, Model, OutOfMemory, Row, greatest_value, least_value};
+use std::alloc::Global;
+use std::collections::BTreeSet;
+use work_stamp::Entry;
+
+/// The view of a search's history: the nodes that are open, those that a task holds, the value that a point must be below
+/// to be worth finding, the cuts, and counts of entries. The open nodes are an ordered set, the best first. Nodes have no
+/// boxes here; a box is made along a node's path in the tree.
+#[derive(Debug, Drop)]
+pub struct Pool {
+    settings: SearchSettings,
+    has_rows: bool,
+    open_nodes: BTreeSet<OpenNode>,
+    held_nodes: Vec<u64>,
+    tree: SearchTree,
+    cutoff: i64,
+    cuts: Vec<Row>,
+    entries: u64,
+    starts: u64,
+    cut_starts: u64,
+    heuristic_starts: u64,
+    halted: bool,
+}
+
+impl std::marker::Model for Pool {
+    ghost use Rattle.node_pool.specs.Trees.{HasBounds};
+    ghost use Rattle.node_pool.specs.Views.{View};
+
+    ghost Value = { View };
+
+    ghost view = { λ p. record { settings = p.settings; has_rows = p.has_rows; open_nodes = p.open_nodes.keys; held_nodes = p.held_nodes.items; branches = p.tree.branches; cutoff = p.cutoff; cuts = p.cuts.items; entries = p.entries; starts = p.starts; cut_starts = p.cut_starts; heuristic_starts = p.heuristic_starts; halted = p.halted } };
+
+    ghost invariant = { λ p. HasBounds p.tree p.open_nodes.keys };
+}
+
+impl Pool {
+    /// The view of the history without entries: node 0 is open with the least value of the costs on the root box as its
+    /// bound, and the cutoff is the greatest such value plus 1.
+    #[tactic(auto, using(ip_core::proofs::Reaching::root_within_reach, crate::proofs::OpenNodes::bounds_at_first))]
+    pub fn new(alloc: Global, model: &Model, settings: SearchSettings) -> Result<Pool, OutOfMemory>
+        ensures { IfOk result (λ pool. pool ≡ fresh_view model.now settings) }
+    {
+        let root = model.root();
+        let bound = least_value(model, root);
+        let mut open_nodes = BTreeSet::new(alloc);
+        open_nodes.insert(OpenNode { bound, name: 0 })?;
+        Ok(Pool {
+            settings,
+            has_rows: !model.rows().is_empty(),
+            open_nodes,
+            held_nodes: Vec::new(alloc),
+            tree: SearchTree::of(alloc, bound),
+            cutoff: greatest_value(model, root) + 1,
+            cuts: Vec::new(alloc),
+            entries: 0,
+            starts: 0,
+            cut_starts: 0,
+            heuristic_starts: 0,
+            halted: false,
+        })
+    }
+
+    /// Appends an entry that may follow the history of the model's search. After want of memory the pool is used no more.
+    pub fn absorb(&mut self, model: &Model, entry: &Entry) -> Result<(), OutOfMemory>
+        requires { CanJoin model.now self.old entry.now }
+        ensures { OnOk result (self.new ≡ after_entry self.old entry.now) }
+    {
+        self.join(entry)?;
+        self.entries += 1;
+        Ok(())
+    }
+
+    /// What an entry changes, but for the count of all entries.
+    fn join(&mut self, entry: &Entry) -> Result<(), OutOfMemory>
+        requires room { HasRoom self.old }
+        requires split { HasNewSplit self.old entry.now }
+        ensures { OnOk result (self.new ≡ with_effect self.old entry.now) }
+    {
+        match entry {
+            Entry::Start { node } => self.start(*node)?,
+            Entry::CutStart => self.cut_starts += 1,
+            Entry::HeurStart { .. } => self.heuristic_starts += 1,
+            Entry::Found { value, .. } => self.cutoff = self.cutoff.min(*value),
+            Entry::Split {
+                node,
+                col,
+                at,
+                first,
+                keep,
+                bound,
+            } => self.split(*node, *col, *at, *first, *keep, *bound)?,
+            Entry::Closed { node } => remove_name(&mut self.held_nodes, *node),
+            Entry::Halt => self.halted = true,
+            Entry::Done | Entry::Cut { .. } => {}
+        }
+        Ok(())
+    }
+
+    /// A node goes from open to held.
+    fn start(&mut self, node: u64) -> Result<(), OutOfMemory>
+        requires { HasRoom self.old }
+        ensures { OnOk result (self.new ≡ with_effect self.old (Start node)) }
+    {
+        self.remove_open(node);
+        self.held_nodes.push(node)?;
+        self.starts += 1;
+        Ok(())
+    }
+
+    /// Takes an open node out, which stands among the others with the bound that the tree has for it.
+    #[tactic(auto, using(crate::proofs::OpenNodes::remove_is, crate::proofs::OpenNodes::absent_is, crate::proofs::OpenNodes::bounds_without))]
+    fn remove_open(&mut self, name: u64)
+        ensures { self.new ≡ record self.old { open_nodes = without_node name self.old.open_nodes } }
+    {
+        if let Some(node) = self.tree.node_of(name) {
+            self.open_nodes.remove(&node);
+        }
+    }
+
+    /// A held node gives way to its children.
+    fn split(
+        &mut self,
+        node: u64,
+        col: u32,
+        at: i64,
+        first: u64,
+        keep: u8,
+        bound: i64,
+    ) -> Result<(), OutOfMemory>
+        requires { IsNewSplit self.old at first }
+        ensures { OnOk result (self.new ≡ with_effect self.old (Split node col at first keep bound)) }
+    {
+        remove_name(&mut self.held_nodes, node);
+        self.tree.push(Branching::of(node, col, at, first, bound))?;
+        let low = OpenNode { bound, name: first };
+        let high = OpenNode {
+            bound,
+            name: first + 1,
+        };
+        self.add_children(low, high, keep)
+    }
+
+    /// Takes in the children of a node: the first or the second is held and the other open, or both are open.
+    fn add_children(&mut self, low: OpenNode, high: OpenNode, keep: u8) -> Result<(), OutOfMemory>
+        requires low { IsFresh self.old low }
+        requires high { IsFresh self.old high }
+        requires apart { nat_eq low.name high.name ≡ false }
+        ensures { OnOk result (self.new ≡ with_children self.old low high keep) }
+    {
+        match keep {
+            0 => {
+                self.held_nodes.push(low.name)?;
+                self.add_open(high)
+            }
+            1 => {
+                self.held_nodes.push(high.name)?;
+                self.add_open(low)
+            }
+            _ => {
+                self.add_open(low)?;
+                self.add_open(high)
+            }
+        }
+    }
+
+    /// Puts a node among the open ones.
+    #[tactic(auto, using(crate::proofs::OpenNodes::bounds_with))]
+    fn add_open(&mut self, node: OpenNode) -> Result<(), OutOfMemory>
+        requires { IsFresh self.old node }
+        ensures { OnOk result (self.new ≡ record self.old { open_nodes = insert_open_of node self.old.open_nodes }) }
+    {
+        insert_open(&mut self.open_nodes, node)?;
+        Ok(())
+    }
+
+    /// The name of the open node of the least bound, and of those the one of the least name; None exactly where no node
+    /// is open.
+    pub fn best_open(&self) -> Option<u64>
+        ensures { result ≡ best_open_of self.now }
+    {
+        let node = self.open_nodes.first()?;
+        Some(node.name)
+    }
+
+    /// The value that a point must be below to be worth finding.
+    pub fn cutoff(&self) -> i64
+        ensures { result ≡ self.now.cutoff }
+    {
+        self.cutoff
+    }
+
+    /// The cuts, in the order of their entries.
+    pub fn cuts(&self) -> &[Row]
+        ensures { result.now ≡ self.now.cuts }
+    {
+        self.cuts.as_slice()
+    }
+
+    /// Whether no node is open or held.
+    pub fn is_finished(&self) -> bool
+        ensures { result ≡ is_finished_of self.now }
+    {
+        self.open_nodes.is_empty() && self.held_nodes.is_empty()
+    }
+
+    /// Whether a Halt stands.
+    pub fn has_halt(&self) -> bool
+        ensures { result ≡ self.now.halted }
+    {
+        self.halted
+    }
+
+    /// The box of a node: the root box of the model, cut by the splits on the way from the root to it.
+    pub fn bounds_of(&self, alloc: Global, model: &Model, node: u64) -> Result<Bounds, OutOfMemory>
+        ensures { IfOk result (λ box. box ≡ box_of model.now.root self.now.branches node) }
+    {
+        let path = self.tree.path_of(alloc, node)?;
+        let mut bounds = model.root().copy(alloc)?;
+        apply_all(path.as_slice(), &mut bounds);
+        Ok(bounds)
+    }
+
+    /// What a slot between tasks takes: the first that applies. Over, where a Halt stands, or no node is open or held.
+    /// CutLoop, where cuts are on, the model has a row and no task has looked for cuts. Heuristic of the best open node,
+    /// where heuristics are on and 8 times the number of their starts is below the number of starts. Node of the best open
+    /// node. Nothing.
+    pub fn pick(&self) -> Pick
+        ensures { result ≡ pick_of self.now }
+    {
+        if self.halted || self.is_finished() {
+            return Pick::Over;
+        }
+        if self.wants_cuts() {
+            return Pick::CutLoop;
+        }
+        match self.best_open() {
+            None => Pick::Nothing,
+            Some(node) => {
+                if self.wants_heuristic() {
+                    Pick::Heuristic(node)
+                } else {
+                    Pick::Node(node)
+                }
+            }
+        }
+    }
+
+    /// Whether cuts are to be looked for first.
+    fn wants_cuts(&self) -> bool
+        ensures { result ≡ wants_cuts_of self.now }
+    {
+        self.settings.cuts && self.has_rows && self.cut_starts == 0
+    }
+
+    /// Whether a feasible point is to be looked for from an open node: at most once in eight starts.
+    fn wants_heuristic(&self) -> bool
+        ensures { result ≡ wants_heuristic_of self.now }
+    {
+        self.settings.heuristics && 8 * u128::from(self.heuristic_starts) < u128::from(self.starts)
+    }
+}

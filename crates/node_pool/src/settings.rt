@@ -1,0 +1,6 @@
+/// What a search may do beside parting boxes: derive cuts, and look for feasible points from open nodes.
+#[derive(Clone, Copy, Debug, PartialEq, Eq)]
+pub struct SearchSettings {
+    pub cuts: bool,
+    pub heuristics: bool,
+}
