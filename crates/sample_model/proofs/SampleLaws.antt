@@ -27,6 +27,9 @@ gen_name = record { short = omega arith; visible = one_byte 71 (69 ∷ 78 ∷ []
 pub objective_name : IsName (codes "OBJ")
 objective_name = record { short = omega arith; visible = one_byte 79 (66 ∷ 74 ∷ []) (omega arith) (omega arith) (one_byte 66 (74 ∷ []) (omega arith) (omega arith) (one_byte 74 [] (omega arith) (omega arith) (All-nil IsNameByte))) }
 
+-- both names are names
+pub ruleset sample_names = (gen_name, objective_name)
+
 objective_row_name : IsRowName (codes "OBJ")
 objective_row_name = record {
   field = record { is_name = objective_name; nonempty = λ e. different 0 3 (omega arith) (sym (ap length e)) };

@@ -18,3 +18,6 @@ sample_columns rows cols z =
     let uppers : length k.uppers ≡ cols = series_length (λ y. 1 + draw_below 3 y) next cols z in
     let costs : length k.costs ≡ cols = series_length (λ y. 1 + draw_below 100 y) next cols (after next cols z) in
     cols_length k.coefficients 0 k.uppers k.costs (costs ∙ sym uppers) ∙ uppers
+
+-- both counts
+pub ruleset sample_sizes = (sample_rows, sample_columns)

@@ -105,7 +105,7 @@ fn columns(alloc: Global, knapsack: &Knapsack) -> Result<List<MpsCol>, OutOfMemo
 }
 
 /// The model of these numbers.
-#[tactic(auto, using(crate::proofs::SampleLaws::gen_name, crate::proofs::SampleLaws::objective_name))]
+#[tactic(auto, using(crate::proofs::SampleLaws::sample_names))]
 fn model(alloc: Global, knapsack: &Knapsack) -> Result<MpsModel, OutOfMemory>
     requires { IsKnapsack knapsack.now }
     ensures value { IfOk result (λ m. m ≡ model_of knapsack.now) }
@@ -122,7 +122,7 @@ fn model(alloc: Global, knapsack: &Knapsack) -> Result<MpsModel, OutOfMemory>
 }
 
 /// The sample model of so many rows and columns.
-#[tactic(auto, using(crate::proofs::SampleSizes::sample_rows, crate::proofs::SampleSizes::sample_columns))]
+#[tactic(auto, using(crate::proofs::SampleSizes::sample_sizes))]
 fn sample(alloc: Global, rows: usize, cols: usize, number: u64) -> Result<MpsModel, OutOfMemory>
     requires rows { rows ≤ 2 ^ 20 }
     requires columns { cols ≤ 2 ^ 20 }
