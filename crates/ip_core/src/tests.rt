@@ -1,6 +1,7 @@
 ghost use Rattle.std.specs.Prelude.{◌≡◌, IfOk};
 
 use crate::decimal::text as text_of;
+use crate::dense::{DenseModel, DenseRow};
 use crate::*;
 use std::alloc::Global;
 use std::test::Fail;
@@ -25,25 +26,24 @@ fn row(alloc: Global, least: i64, terms: &[(u32, i64)]) -> Result<Row, OutOfMemo
     Ok(Row { terms: list, least })
 }
 
-/// The model of columns `x`, `y` and so on with these costs, each from 0 to `high`.
-fn model(alloc: Global, costs: &[i64], high: i64, rows: List<Row>) -> Result<Option<Model>, Fail> {
-    let mut cols = List::new(alloc);
-    let mut lows = Vec::new(alloc);
-    let mut highs = Vec::new(alloc);
-    for letter in b"xyz".iter().take(costs.len()) {
-        let mut name = Text::new(alloc);
-        name.push(*letter)?;
-        cols.push(Name::of(name).ok_or("a name")?)?;
-        lows.push(0)?;
-        highs.push(high)?;
-    }
-    let Some(root) = bounds(List::of(lows), List::of(highs)) else {
+/// The model of one column from 0 to 33,554,432 at cost 1, with one row.
+fn model_of_row(alloc: Global, row: Row) -> Result<Option<Model>, OutOfMemory> {
+    let Some(name) = Name::of(text(alloc, b"one")?) else {
         return Ok(None);
     };
+    let mut cols = List::new(alloc);
+    if let Some(col) = Name::of(text(alloc, b"x")?) {
+        cols.push(col)?;
+    }
+    let Some(root) = bounds(numbers(alloc, &[0])?, numbers(alloc, &[33_554_432])?) else {
+        return Ok(None);
+    };
+    let mut rows = List::new(alloc);
+    rows.push(row)?;
     Ok(Model::of(ModelParts {
-        name: Name::of(text(alloc, b"three")?).ok_or("a name")?,
+        name,
         cols,
-        costs: numbers(alloc, costs)?,
+        costs: numbers(alloc, &[1])?,
         constant: 0,
         decimals: 0,
         maximise: false,
@@ -68,22 +68,64 @@ fn values_of(model: &Model) -> (i64, i64) {
 }
 
 /// Three columns from 0 to 3, to be kept within 5, 11 and 8.
+const PACKED: DenseModel<'static> = DenseModel {
+    costs: &[-5, -4, -3],
+    lows: &[0, 0, 0],
+    highs: &[3, 3, 3],
+    rows: &[
+        DenseRow {
+            coefs: &[-2, -3, -1],
+            least: -5,
+        },
+        DenseRow {
+            coefs: &[-4, -1, -2],
+            least: -11,
+        },
+        DenseRow {
+            coefs: &[-3, -4, -2],
+            least: -8,
+        },
+    ],
+};
+
+/// The model of a dense model, without a contract.
+fn model_of(alloc: Global, dense: &DenseModel) -> Result<Option<Model>, OutOfMemory> {
+    dense.build(alloc)
+}
+
 #[test]
-fn judges_points(rt: HostRuntime) -> Result<(), Fail> {
-    let alloc = rt.alloc();
-    let mut rows = List::new(alloc);
-    rows.push(row(alloc, -5, &[(0, -2), (1, -3), (2, -1)])?)?;
-    rows.push(row(alloc, -11, &[(0, -4), (1, -1), (2, -2)])?)?;
-    rows.push(row(alloc, -8, &[(0, -3), (1, -4), (2, -2)])?)?;
-    let model = model(alloc, &[-5, -4, -3], 3, rows)?.ok_or("a model")?;
+fn tells_its_parts(rt: HostRuntime) -> Result<(), Fail> {
+    let model = model_of(rt.alloc(), &PACKED)?.ok_or("a model")?;
     assert_eq!(rt; model.costs(), [-5, -4, -3].as_slice());
-    assert_eq!(rt; model.rows().len(), 3);
+    assert_eq!(rt; (model.cols().len(), model.rows().len()), (3, 3));
     assert_eq!(rt; values_of(&model), (-36, 0));
-    assert_eq!(rt; model.name().text().as_slice(), b"three".as_slice());
+    assert_eq!(rt; model.name().text().as_slice(), b"x".as_slice());
     assert_eq!(rt;
         (model.constant(), model.decimals(), model.maximise()),
         (0, 0, false)
     );
+    Ok(())
+}
+
+/// The value of a point of a dense model, and None where it isn't feasible.
+fn feasible_value(
+    alloc: Global,
+    dense: &DenseModel,
+    values: &[i64],
+) -> Result<Option<i64>, OutOfMemory> {
+    let Some(model) = model_of(alloc, dense)? else {
+        return Ok(None);
+    };
+    let point = Point::of(numbers(alloc, values)?).copy(alloc)?;
+    if is_feasible(&model, &point) {
+        Ok(Some(value(&model, &point)))
+    } else {
+        Ok(None)
+    }
+}
+
+#[test]
+fn judges_points(rt: HostRuntime) -> Result<(), Fail> {
     let cases: [(&[i64], Option<i64>); 6] = [
         (&[2, 0, 1], Some(-13)),
         (&[0, 0, 0], Some(0)),
@@ -93,21 +135,20 @@ fn judges_points(rt: HostRuntime) -> Result<(), Fail> {
         (&[2, 0], None),
     ];
     for (values, wanted) in cases {
-        let point = Point::of(numbers(alloc, values)?).copy(alloc)?;
-        let found = if is_feasible(&model, &point) {
-            Some(value(&model, &point))
-        } else {
-            None
-        };
+        let found = feasible_value(rt.alloc(), &PACKED, values)?;
         assert_eq!(rt; found, wanted, "at {values:?}");
     }
     Ok(())
 }
 
-/// One column from 0 to 33,554,432 in a row with that coefficient: a width of 2^50, and one more.
+/// Whether a row of these terms makes a model.
+fn makes_model(alloc: Global, least: i64, terms: &[(u32, i64)]) -> Result<bool, OutOfMemory> {
+    Ok(model_of_row(alloc, row(alloc, least, terms)?)?.is_some())
+}
+
+/// A row with a coefficient of 33,554,432 has a width of 2^50, and one more with a `least` of 1.
 #[test]
 fn keeps_limits(rt: HostRuntime) -> Result<(), Fail> {
-    let alloc = rt.alloc();
     let cases: [(i64, &[(u32, i64)], bool); 6] = [
         (0, &[(0, 33_554_432)], true),
         (1, &[(0, 33_554_432)], false),
@@ -117,11 +158,33 @@ fn keeps_limits(rt: HostRuntime) -> Result<(), Fail> {
         (0, &[], true),
     ];
     for (least, terms, wanted) in cases {
-        let mut rows = List::new(alloc);
-        rows.push(row(alloc, least, terms)?)?;
-        let made = model(alloc, &[1], 33_554_432, rows)?;
-        assert_eq!(rt; made.is_some(), wanted, "at {least} and {terms:?}");
+        let found = makes_model(rt.alloc(), least, terms)?;
+        assert_eq!(rt; found, wanted, "at {least} and {terms:?}");
     }
+    Ok(())
+}
+
+/// A dense row has a term for each coefficient other than 0, and a coefficient for each column.
+#[test]
+fn builds_dense_models(rt: HostRuntime) -> Result<(), Fail> {
+    let sparse = DenseModel {
+        rows: &[DenseRow {
+            coefs: &[7, 0, -2],
+            least: 1,
+        }],
+        ..PACKED
+    };
+    let model = model_of(rt.alloc(), &sparse)?.ok_or("a model")?;
+    let terms = [Term { col: 0, coef: 7 }, Term { col: 2, coef: -2 }];
+    assert_eq!(rt;
+        model.rows().first().map(|row| row.terms.as_slice()),
+        Some(terms.as_slice())
+    );
+    let uneven = DenseModel {
+        costs: &[1, 1],
+        ..PACKED
+    };
+    assert!(rt; model_of(rt.alloc(), &uneven)?.is_none());
     Ok(())
 }
 
