@@ -6,9 +6,7 @@ use crate::{
     Answer, PlainSearch, Status, answer_of, answers_are_true, best_nodes_are_taken,
     histories_are_read, limits_are_met,
 };
-use ip_core::{
-    Bounds, List, Model, ModelParts, Name, OutOfMemory, Point, Row, Term, Text, is_feasible, value,
-};
+use ip_core::{Bounds, List, Model, ModelParts, Name, OutOfMemory, Row, Term, Text};
 use stamp_machine::{History, Limits, run_alone};
 use std::alloc::Global;
 use std::test::Fail;
@@ -97,56 +95,75 @@ fn answer(
     Ok((history, answer))
 }
 
-/// A history in short: each entry with its key, the ends, and then the answer.
-fn summary(alloc: Global, history: &History, answer: &Answer) -> Result<String, OutOfMemory> {
-    let mut text = String::new(alloc);
-    for item in history.entries.as_slice() {
-        let entry = match &item.entry {
-            Entry::Start { node } => format!(in alloc; "start {node}")?,
-            Entry::Found { value, .. } => format!(in alloc; "found {value}")?,
-            Entry::Split { node, first, .. } => format!(in alloc; "split {node} {first}")?,
-            Entry::Closed { node } => format!(in alloc; "closed {node}")?,
-            Entry::Done => format!(in alloc; "done")?,
-            Entry::Halt => format!(in alloc; "halt")?,
-            _ => format!(in alloc; "other")?,
-        };
-        let line = format!(in alloc; "{} {} {entry}, ", item.key.stamp, item.key.slot)?;
-        text.push_str(line.as_str())?;
+// The numbers of the kinds of entries.
+const START: u64 = 1;
+
+const FOUND: u64 = 2;
+
+const SPLIT: u64 = 3;
+
+const CLOSED: u64 = 4;
+
+const DONE: u64 = 5;
+
+const HALT: u64 = 6;
+
+/// The number of an entry's kind, and its node with a split's first child, or its value. Another kind has the number 0.
+fn kind_row(entry: &Entry) -> [u64; 3] {
+    match entry {
+        Entry::Start { node } => [START, *node, 0],
+        Entry::Found { value, .. } => [FOUND, value.cast_unsigned(), 0],
+        Entry::Split { node, first, .. } => [SPLIT, *node, *first],
+        Entry::Closed { node } => [CLOSED, *node, 0],
+        Entry::Done => [DONE, 0, 0],
+        Entry::Halt => [HALT, 0, 0],
+        _ => [0, 0, 0],
     }
-    for end in history.ends.as_slice() {
-        let line = format!(in alloc; "end {end}, ")?;
-        text.push_str(line.as_str())?;
-    }
-    let status = match answer.status {
-        Status::Optimal => "optimal",
-        Status::Infeasible => "infeasible",
-        Status::StoreLimit => "store limit",
-        Status::WorkLimit => "work limit",
-    };
-    text.push_str(status)?;
-    if let Some(best) = &answer.best {
-        let line = format!(in alloc; " {}", best.value)?;
-        text.push_str(line.as_str())?;
-    }
-    Ok(text)
 }
 
-fn played(alloc: Global, search: &PlainSearch, limits: &Limits) -> Result<String, OutOfMemory>
-    requires { AreLimits limits.now }
-{
-    let (history, answer) = answer(alloc, search, limits)?;
-    summary(alloc, &history, &answer)
+/// Whether a history has these entries, each with its stamp and its slot before its kind, and these ends.
+fn has_rows(
+    alloc: Global,
+    history: &History,
+    wanted: &[[u64; 5]],
+    ends: &[u64],
+) -> Result<bool, OutOfMemory> {
+    let mut rows = List::new(alloc);
+    for item in history.entries.as_slice() {
+        let [kind, first, second] = kind_row(&item.entry);
+        rows.push([
+            item.key.stamp,
+            u64::from(item.key.slot),
+            kind,
+            first,
+            second,
+        ])?;
+    }
+    Ok(rows.as_slice() == wanted && history.ends.as_slice() == ends)
+}
+
+/// Whether an answer has this status and this best value.
+fn is_answer(answer: &Answer, status: Status, value: Option<i64>) -> bool {
+    let best = match &answer.best {
+        Some(best) => Some(best.value),
+        None => None,
+    };
+    answer.status == status && best == value
 }
 
 // Slot 1 finds nothing open at stamp 0, waits until 1,000, and is over then.
 #[test]
 fn two_slots_share_one_node(rt: HostRuntime) -> Result<(), Fail> {
     let search = free(rt.alloc(), &[1])?;
-    let text = played(rt.alloc(), &search, &limits(2, 200_000_000, 64))?;
-    assert_eq!(rt;
-        text.as_str(),
-        "0 0 start 0, 2 0 found 0, 2 0 closed 0, 2 0 done, end 2, end 1000, optimal 0"
-    );
+    let (history, answer) = answer(rt.alloc(), &search, &limits(2, 200_000_000, 64))?;
+    let rows = [
+        [0, 0, START, 0, 0],
+        [2, 0, FOUND, 0, 0],
+        [2, 0, CLOSED, 0, 0],
+        [2, 0, DONE, 0, 0],
+    ];
+    assert!(rt; has_rows(rt.alloc(), &history, &rows, &[2, 1_000])?);
+    assert!(rt; is_answer(&answer, Status::Optimal, Some(0)));
     Ok(())
 }
 
@@ -154,8 +171,10 @@ fn two_slots_share_one_node(rt: HostRuntime) -> Result<(), Fail> {
 #[test]
 fn a_full_store_halts(rt: HostRuntime) -> Result<(), Fail> {
     let search = free(rt.alloc(), &[1; 46])?;
-    let text = played(rt.alloc(), &search, &limits(1, 200_000_000, 64))?;
-    assert_eq!(rt; text.as_str(), "0 0 start 0, 2 0 halt, end 2, store limit");
+    let (history, answer) = answer(rt.alloc(), &search, &limits(1, 200_000_000, 64))?;
+    let rows = [[0, 0, START, 0, 0], [2, 0, HALT, 0, 0]];
+    assert!(rt; has_rows(rt.alloc(), &history, &rows, &[2])?);
+    assert!(rt; is_answer(&answer, Status::StoreLimit, None));
     Ok(())
 }
 
@@ -163,11 +182,8 @@ fn a_full_store_halts(rt: HostRuntime) -> Result<(), Fail> {
 #[test]
 fn sixty_words_fit(rt: HostRuntime) -> Result<(), Fail> {
     let search = free(rt.alloc(), &[1; 45])?;
-    let text = played(rt.alloc(), &search, &limits(1, 200_000_000, 64))?;
-    assert_eq!(rt;
-        text.as_str(),
-        "0 0 start 0, 2 0 found 0, 2 0 closed 0, 2 0 done, end 2, optimal 0"
-    );
+    let (_history, answer) = answer(rt.alloc(), &search, &limits(1, 200_000_000, 64))?;
+    assert!(rt; is_answer(&answer, Status::Optimal, Some(0)));
     Ok(())
 }
 
@@ -175,11 +191,21 @@ fn sixty_words_fit(rt: HostRuntime) -> Result<(), Fail> {
 #[test]
 fn work_ends_at_its_limit(rt: HostRuntime) -> Result<(), Fail> {
     let search = doubled(rt.alloc())?;
-    let text = played(rt.alloc(), &search, &limits(1, 15, 1_000))?;
-    assert_eq!(rt;
-        text.as_str(),
-        "0 0 start 0, 3 0 split 0 4, 6 0 split 4 8, 9 0 closed 8, 9 0 done, 9 0 start 5, 12 0 found 3, 12 0 closed 5, 12 0 done, 12 0 start 9, end 15, work limit 3"
-    );
+    let (history, answer) = answer(rt.alloc(), &search, &limits(1, 15, 1_000))?;
+    let rows = [
+        [0, 0, START, 0, 0],
+        [3, 0, SPLIT, 0, 4],
+        [6, 0, SPLIT, 4, 8],
+        [9, 0, CLOSED, 8, 0],
+        [9, 0, DONE, 0, 0],
+        [9, 0, START, 5, 0],
+        [12, 0, FOUND, 3, 0],
+        [12, 0, CLOSED, 5, 0],
+        [12, 0, DONE, 0, 0],
+        [12, 0, START, 9, 0],
+    ];
+    assert!(rt; has_rows(rt.alloc(), &history, &rows, &[15])?);
+    assert!(rt; is_answer(&answer, Status::WorkLimit, Some(3)));
     Ok(())
 }
 
@@ -187,8 +213,7 @@ fn work_ends_at_its_limit(rt: HostRuntime) -> Result<(), Fail> {
 fn one_more_unit_of_work_suffices(rt: HostRuntime) -> Result<(), Fail> {
     let search = doubled(rt.alloc())?;
     let (_history, answer) = answer(rt.alloc(), &search, &limits(1, 16, 1_000))?;
-    assert!(rt; matches!(answer.status, Status::Optimal));
-    assert_eq!(rt; answer.best.map(|best| best.value), Some(2));
+    assert!(rt; is_answer(&answer, Status::Optimal, Some(2)));
     Ok(())
 }
 
@@ -211,59 +236,7 @@ fn all_slots_take_part(rt: HostRuntime) -> Result<(), Fail> {
     rows.push(row(alloc, &[-2; 10], -9)?)?;
     let search = PlainSearch::of(model(alloc, &[0; 10], 1, rows)?);
     let (history, answer) = answer(alloc, &search, &limits(3, 1_000_000, 100_000))?;
-    assert!(rt; matches!(answer.status, Status::Infeasible));
-    assert!(rt; answer.best.is_none());
+    assert!(rt; is_answer(&answer, Status::Infeasible, None));
     assert!(rt; has_split(&history, 1) && has_split(&history, 2));
-    Ok(())
-}
-
-/// The least value of all feasible points of three columns, tried one after the other.
-fn least(alloc: Global, model: &Model, high: i64) -> Result<Option<i64>, OutOfMemory> {
-    let mut least = None;
-    for x in 0..=high {
-        for y in 0..=high {
-            for z in 0..=high {
-                let point = Point::of(List::of(Vec::from_slice(alloc, &[x, y, z])?));
-                if is_feasible(model, &point) {
-                    let found = value(model, &point);
-                    least = Some(least.map_or(found, |so_far: i64| so_far.min(found)));
-                }
-            }
-        }
-    }
-    Ok(least)
-}
-
-// Models of three columns and two rows, in three slots, against a plain enumeration of all points.
-#[test]
-fn agrees_with_an_enumeration(rt: HostRuntime) -> Result<(), Fail> {
-    let alloc = rt.alloc();
-    let cases: [([i64; 3], i64, [([i64; 3], i64); 2]); 6] = [
-        ([1, 1, 1], 3, [([2, 3, 5], 13), ([1, -1, 0], 0)]),
-        ([-5, -4, -3], 3, [([-2, -3, -1], -5), ([-4, -1, -2], -11)]),
-        ([2, -3, 1], 4, [([3, 3, 0], 7), ([-3, -3, -6], -17)]),
-        ([1, 0, 0], 1, [([2, 2, 2], 3), ([-2, -2, -2], -3)]),
-        ([0, 0, 0], 2, [([1, 1, 1], 6), ([0, 0, 0], 0)]),
-        ([-1, 7, -2], 4, [([5, -7, 3], 4), ([-4, 6, -9], -20)]),
-    ];
-    for (costs, high, rows) in cases {
-        let mut list = List::new(alloc);
-        for (coefs, least) in rows {
-            list.push(row(alloc, &coefs, least)?)?;
-        }
-        let search = PlainSearch::of(model(alloc, &costs, high, list)?);
-        let (_history, answer) = answer(alloc, &search, &limits(3, 1_000_000, 10_000))?;
-        let wanted = least(alloc, search.model(), high)?;
-        assert_eq!(rt;
-            answer.best.as_ref().map(|best| best.value),
-            wanted,
-            "at {costs:?}"
-        );
-        let status = match wanted {
-            Some(_) => Status::Optimal,
-            None => Status::Infeasible,
-        };
-        assert_eq!(rt; answer.status, status, "at {costs:?}");
-    }
     Ok(())
 }

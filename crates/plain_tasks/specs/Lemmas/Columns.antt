@@ -30,11 +30,14 @@ wider_cases n least false less = less
 
 widest_least : (s : Sides) (n : ℕ) → widest_below s n ≤ n
 widest_least s zero = omega arith
-widest_least s (suc n) = let more = wider_cases n (widest_below s n) (int_lt (width_at s (widest_below s n)) (width_at s n)) (widest_least s n) in omega arith
+widest_least s (suc n) = let more = wider_cases n (widest_below s n)
+    (int_lt (width_at s (widest_below s n)) (width_at s n)) (widest_least s n) in omega arith
 
 widest_below_known : (s : Sides) (n : ℕ) → 0 < n → widest_below s n < n
 widest_below_known s zero some = absurd (omega arith)
-widest_below_known s (suc n) some = let more = wider_cases n (widest_below s n) (int_lt (width_at s (widest_below s n)) (width_at s n)) (widest_least s n) in omega arith
+widest_below_known s (suc n) some = let more =
+    wider_cases n (widest_below s n) (int_lt (width_at s (widest_below s n)) (width_at s n))
+    (widest_least s n) in omega arith
 
 pub widest_known : (s : Sides) → 0 < length s.lows → widest s < length s.lows
 widest_known s some = widest_below_known s (length s.lows) some
@@ -64,16 +67,22 @@ signed_between z above below = fits_signed_from_abs w64 z (omega (arith, ints))
 pub filled : (m : ModelParts) (s : Sides) → is_hopeless m s ≡ false → has_empty s ≡ false
 filled m s open_box = (or_false (has_empty s) (has_conflict m s) open_box).0
 
-pub open_reached : (m : ModelParts) (s : Sides) → IsWithin m.root s → IsPaired s → is_hopeless m s ≡ false → IsReached m.root s
-open_reached m s within paired open_box = filled_reached m.root s within paired (filled m s open_box)
+pub open_reached : (m : ModelParts) (s : Sides) → IsWithin m.root s → IsPaired s →
+    is_hopeless m s ≡ false → IsReached m.root s
+open_reached m s within paired open_box = filled_reached m.root s within paired
+    (filled m s open_box)
 
-pub open_small : (m : ModelParts) (s : Sides) → IsModel m → IsWithin m.root s → IsPaired s → is_hopeless m s ≡ false → IsSmall s
-open_small m s valid within paired open_box = reached_small m.root s valid.bounds.limits (open_reached m s within paired open_box)
+pub open_small : (m : ModelParts) (s : Sides) → IsModel m → IsWithin m.root s → IsPaired s →
+    is_hopeless m s ≡ false → IsSmall s
+open_small m s valid within paired open_box =
+    reached_small m.root s valid.bounds.limits (open_reached m s within paired open_box)
 
 -- its least value has a word
-pub least_signed : (m : ModelParts) (s : Sides) → IsModel m → IsReached m.root s → IsSigned (least_value m s)
+pub least_signed : (m : ModelParts) (s : Sides) → IsModel m → IsReached m.root s →
+    IsSigned (least_value m s)
 least_signed m s valid reached =
-    narrow_fits (least_value m s) _ (least_reached m s (length m.costs) (length m.costs) reached (omega arith)) (model_costs_narrow m m m.costs refl refl valid)
+    narrow_fits (least_value m s) _ (least_reached m s (length m.costs) (length m.costs) reached
+    (omega arith)) (model_costs_narrow m m m.costs refl refl valid)
 
 -- a box without columns
 
@@ -81,34 +90,50 @@ no_terms : (n : ℕ) (terms : List Term) → n ≡ 0 → All (IsTerm n) terms �
 no_terms n [] none all = refl
 no_terms n (t ∷ terms) none all = absurd (let known = (all 0 t (omega arith)).known in omega arith)
 
-none_conflicts : (p : Row → Bool) (rows : List Row) → list_any p rows ≡ false → (k : ℕ) (d : Row) → k < length rows → p (get_or rows k d) ≡ false
+none_conflicts : (p : Row → Bool) (rows : List Row) → list_any p rows ≡ false → (k : ℕ) (d : Row) →
+    k < length rows → p (get_or rows k d) ≡ false
 none_conflicts p [] none k d within = absurd (omega arith)
 none_conflicts p (row ∷ rows) none zero d within = (or_false (p row) (list_any p rows) none).0
-none_conflicts p (row ∷ rows) none (suc k) d within = none_conflicts p rows (or_false (p row) (list_any p rows) none).1 k d (omega arith)
+none_conflicts p (row ∷ rows) none (suc k) d within =
+    none_conflicts p rows (or_false (p row) (list_any p rows) none).1 k d (omega arith)
 
-met_without_terms : (s : Sides) (x : List ℤ) (row : Row) → row.terms ≡ [] → is_conflict s row ≡ false → IsMet x row
+met_without_terms : (s : Sides) (x : List ℤ) (row : Row) → row.terms ≡ [] →
+    is_conflict s row ≡ false → IsMet x row
 met_without_terms s x row none calm = record {
-  reached = subst (λ (terms : List Term). row.least ≤ℤ activity x terms) (sym none) (subst (λ (terms : List Term). row.least ≤ℤ greatest_activity s terms) none (le_from_failed (greatest_activity s row.terms) row.least calm));
+  reached = subst (λ (terms : List Term). row.least ≤ℤ activity x terms) (sym none)
+      (subst (λ (terms : List Term). row.least ≤ℤ greatest_activity s terms) none
+      (le_from_failed (greatest_activity s row.terms) row.least calm));
 }
 
 -- the empty point is feasible
-pub corner_without_columns : (m : ModelParts) (s : Sides) → IsModel m → length m.cols ≡ 0 → is_hopeless m s ≡ false → IsFeasible m (cheapest_corner m s)
+pub corner_without_columns : (m : ModelParts) (s : Sides) → IsModel m → length m.cols ≡ 0 →
+    is_hopeless m s ≡ false → IsFeasible m (cheapest_corner m s)
 corner_without_columns m s valid none open_box =
     let calm = (or_false (has_empty s) (has_conflict m s) open_box).1 in
     let costs = valid.bounds.costs in
-    let empty : length (cheapest_corner m s) ≡ 0 = omega (arith, length-list_below (length m.costs) (λ j. cheapest_end s (int_at m.costs j) j)) in
+    let empty : length (cheapest_corner m s) ≡ 0 =
+    omega (arith, length-list_below (length m.costs) (λ j. cheapest_end s (int_at m.costs j) j))
+    in
     record {
       one_each = omega arith;
       inside = record { above = λ j h. absurd (omega arith); below = λ j h. absurd (omega arith) };
-      rows_met = record { each = λ k d within. met_without_terms s (cheapest_corner m s) (get_or m.rows k d) (no_terms (length m.cols) (get_or m.rows k d).terms none (valid.rows.each k d within).terms.each) (none_conflicts (is_conflict s) m.rows calm k d within) };
+      rows_met = record {
+        each = λ k d within. met_without_terms s (cheapest_corner m s)
+            (get_or m.rows k d) (no_terms (length m.cols) (get_or m.rows k d).terms none
+            (valid.rows.each k d within).terms.each)
+            (none_conflicts (is_conflict s) m.rows calm k d within);
+      };
     }
 
 -- the values of a feasible point have words
 
-between_small : (low x high : ℤ) → low ≤ℤ x → x ≤ℤ high → unsigned_abs low ≤ 2 ^ 31 → unsigned_abs high ≤ 2 ^ 31 → unsigned_abs x < 2 ^ 63
-between_small low x high above below first second = let between = unsigned_abs_between low x high above below in omega arith
+between_small : (low x high : ℤ) → low ≤ℤ x → x ≤ℤ high → unsigned_abs low ≤ 2 ^ 31 →
+    unsigned_abs high ≤ 2 ^ 31 → unsigned_abs x < 2 ^ 63
+between_small low x high above below first second = let between =
+    unsigned_abs_between low x high above below in omega arith
 
-pub point_signed : (m : ModelParts) (x : List ℤ) → IsModel m → IsPaired m.root → IsFeasible m x → All IsSigned x
+pub point_signed : (m : ModelParts) (x : List ℤ) → IsModel m → IsPaired m.root → IsFeasible m x →
+    All IsSigned x
 point_signed m x valid paired feasible = λ k d within.
     let one_each = feasible.one_each in
     let box = valid.bounds.box in
@@ -116,4 +141,7 @@ point_signed m x valid paired feasible = λ k d within.
     let low : k < length m.root.lows = omega arith in
     let high : k < length m.root.highs = omega arith in
     subst (λ (z : ℤ). IsSigned z) (get_or_default x k (pos 0) d within)
-    (fits_signed_from_abs w64 (int_at x k) (between_small (int_at m.root.lows k) (int_at x k) (int_at m.root.highs k) (feasible.inside.above k within) (feasible.inside.below k within) (valid.bounds.limits.lows.each k (pos 0) low) (valid.bounds.limits.highs.each k (pos 0) high)))
+    (fits_signed_from_abs w64 (int_at x k) (between_small (int_at m.root.lows k) (int_at x k)
+    (int_at m.root.highs k) (feasible.inside.above k within) (feasible.inside.below k within)
+    (valid.bounds.limits.lows.each k (pos 0) low)
+    (valid.bounds.limits.highs.each k (pos 0) high)))

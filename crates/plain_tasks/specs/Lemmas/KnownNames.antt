@@ -16,10 +16,13 @@ three_tests false false true = refl
 three_tests false false false = refl
 
 -- the names after one more entry
-pub known_next : (history : List KeyedEntry) (e : KeyedEntry) (name : ℕ) → is_known (history ++ e ∷ []) name ≡ (is_known history name || makes e.entry name)
+pub known_next : (history : List KeyedEntry) (e : KeyedEntry) (name : ℕ) →
+    is_known (history ++ e ∷ []) name ≡ (is_known history name || makes e.entry name)
 known_next history e name =
-    ap (λ (b : Bool). nat_eq 0 name || b) (list_any-append (λ (x : KeyedEntry). makes x.entry name) history (e ∷ []))
-    ∙ three_tests (nat_eq 0 name) (list_any (λ (x : KeyedEntry). makes x.entry name) history) (makes e.entry name)
+    ap (λ (b : Bool). nat_eq 0 name || b) (list_any-append (λ (x : KeyedEntry). makes x.entry name)
+    history (e ∷ []))
+    ∙ three_tests (nat_eq 0 name) (list_any (λ (x : KeyedEntry). makes x.entry name) history)
+    (makes e.entry name)
 
 -- neither of two children's names is one of two others
 pub record AreApart (first name : ℕ) : Type 0 where
@@ -29,12 +32,24 @@ pub record AreApart (first name : ℕ) : Type 0 where
   pub two_two : first + 1 ≡ name + 1 → ⊥
 
 -- of two slots
-pub apart_by_slot : (i j a b : ℕ) → (i ≡ j → ⊥) → a ≤ 2 ^ 37 → b ≤ 2 ^ 37 → AreApart (child_name i a) (child_name j b)
-apart_by_slot i j a b apart first second = record { one_one = λ e. omega arith; two_one = λ e. omega arith; one_two = λ e. omega arith; two_two = λ e. omega arith }
+pub apart_by_slot : (i j a b : ℕ) → (i ≡ j → ⊥) → a ≤ 2 ^ 37 → b ≤ 2 ^ 37 →
+    AreApart (child_name i a) (child_name j b)
+apart_by_slot i j a b apart first second = record {
+  one_one = λ e. omega arith;
+  two_one =
+      λ e. omega arith;
+  one_two = λ e. omega arith;
+  two_two = λ e. omega arith;
+}
 
 -- of one slot
 pub apart_by_ordinal : (i a b : ℕ) → a < b → AreApart (child_name i a) (child_name i b)
-apart_by_ordinal i a b less = record { one_one = λ e. omega arith; two_one = λ e. omega arith; one_two = λ e. omega arith; two_two = λ e. omega arith }
+apart_by_ordinal i a b less = record {
+  one_one = λ e. omega arith;
+  two_one = λ e. omega arith;
+  one_two = λ e. omega arith;
+  two_two = λ e. omega arith;
+}
 
 -- an entry makes neither a name nor the next one
 pub record MakesNeither (e : Entry) (name : ℕ) : Type 0 where
@@ -44,8 +59,10 @@ pub record MakesNeither (e : Entry) (name : ℕ) : Type 0 where
 neither_test : (a b : Bool) → a ≡ false → b ≡ false → (a || b) ≡ false
 neither_test a b first second = rw (first, second) refl
 
-pub split_makes_neither : (node col : ℕ) (at : ℤ) (first keep : ℕ) (bound : ℤ) (name : ℕ) → AreApart first name → MakesNeither (Split node col at first keep bound) name
+pub split_makes_neither : (node col : ℕ) (at : ℤ) (first keep : ℕ) (bound : ℤ) (name : ℕ) →
+    AreApart first name → MakesNeither (Split node col at first keep bound) name
 split_makes_neither node col at first keep bound name apart = record {
   one = neither_test _ _ (ne_eqb first name apart.one_one) (ne_eqb (first + 1) name apart.two_one);
-  two = neither_test _ _ (ne_eqb first (name + 1) apart.one_two) (ne_eqb (first + 1) (name + 1) apart.two_two);
+  two = neither_test _ _ (ne_eqb first (name + 1) apart.one_two)
+      (ne_eqb (first + 1) (name + 1) apart.two_two);
 }
