@@ -164,27 +164,47 @@ fn keeps_limits(rt: HostRuntime) -> Result<(), Fail> {
     Ok(())
 }
 
-/// A dense row has a term for each coefficient other than 0, and a coefficient for each column.
+/// Whether the first row of a dense model has these terms, and None where there is no model.
+fn has_first_terms(
+    alloc: Global,
+    dense: &DenseModel,
+    terms: &[Term],
+) -> Result<Option<bool>, OutOfMemory> {
+    let Some(model) = model_of(alloc, dense)? else {
+        return Ok(None);
+    };
+    match model.rows().first() {
+        Some(row) => Ok(Some(row.terms.as_slice() == terms)),
+        None => Ok(Some(false)),
+    }
+}
+
+const SPARSE: DenseModel<'static> = DenseModel {
+    costs: &[1, 1, 1],
+    lows: &[0, 0, 0],
+    highs: &[3, 3, 3],
+    rows: &[DenseRow {
+        coefs: &[7, 0, -2],
+        least: 1,
+    }],
+};
+
+/// The row has one coefficient more than there are columns.
+const UNEVEN: DenseModel<'static> = DenseModel {
+    costs: &[1, 1],
+    lows: &[0, 0],
+    highs: &[3, 3],
+    rows: &[DenseRow {
+        coefs: &[7, 2, 0],
+        least: 1,
+    }],
+};
+
 #[test]
 fn builds_dense_models(rt: HostRuntime) -> Result<(), Fail> {
-    let sparse = DenseModel {
-        rows: &[DenseRow {
-            coefs: &[7, 0, -2],
-            least: 1,
-        }],
-        ..PACKED
-    };
-    let model = model_of(rt.alloc(), &sparse)?.ok_or("a model")?;
     let terms = [Term { col: 0, coef: 7 }, Term { col: 2, coef: -2 }];
-    assert_eq!(rt;
-        model.rows().first().map(|row| row.terms.as_slice()),
-        Some(terms.as_slice())
-    );
-    let uneven = DenseModel {
-        costs: &[1, 1],
-        ..PACKED
-    };
-    assert!(rt; model_of(rt.alloc(), &uneven)?.is_none());
+    assert_eq!(rt; has_first_terms(rt.alloc(), &SPARSE, &terms)?, Some(true));
+    assert_eq!(rt; has_first_terms(rt.alloc(), &UNEVEN, &terms)?, None);
     Ok(())
 }
 
@@ -207,20 +227,46 @@ fn keeps_items(rt: HostRuntime) -> Result<(), Fail> {
     Ok(())
 }
 
+fn box_of(alloc: Global, lows: &[i64], highs: &[i64]) -> Result<Option<Bounds>, OutOfMemory> {
+    Ok(bounds(numbers(alloc, lows)?, numbers(alloc, highs)?))
+}
+
+/// Cuts the low of a column, or else the high, where there is such a column.
+fn cut(bounds: &mut Bounds, col: u32, is_low: bool, value: i64) {
+    if (col as usize) < bounds.lows().len() {
+        if is_low {
+            bounds.cut_low(col, value);
+        } else {
+            bounds.cut_high(col, value);
+        }
+    }
+}
+
+/// The low and the high of a column, and None where there is no such column.
+fn ends(bounds: &Bounds, col: u32) -> Option<(i64, i64)> {
+    if (col as usize) < bounds.lows().len() {
+        Some(bounds.get(col))
+    } else {
+        None
+    }
+}
+
 #[test]
 fn cuts_boxes(rt: HostRuntime) -> Result<(), Fail> {
     let alloc = rt.alloc();
-    let mut root = Bounds::of(numbers(alloc, &[0, 0])?, numbers(alloc, &[3, 3])?).ok_or("a box")?;
-    root.cut_low(0, 2);
-    root.cut_low(0, 1);
-    root.cut_high(1, 1);
-    root.cut_high(1, 2);
+    let mut root = box_of(alloc, &[0, 0], &[3, 3])?.ok_or("a box")?;
+    for (col, is_low, value) in [(0, true, 2), (0, true, 1), (1, false, 1), (1, false, 2)] {
+        cut(&mut root, col, is_low, value);
+    }
     let kept = root.copy(alloc)?;
-    assert_eq!(rt; (kept.get(0), kept.get(1)), ((2, 3), (0, 1)));
+    assert_eq!(rt;
+        (ends(&kept, 0), ends(&kept, 1)),
+        (Some((2, 3)), Some((0, 1)))
+    );
     assert_eq!(rt; (kept.first_empty(), kept.is_fixed()), (None, false));
-    root.cut_low(1, 2);
+    cut(&mut root, 1, true, 2);
     assert_eq!(rt; root.first_empty(), Some(1));
-    assert!(rt; Bounds::of(numbers(alloc, &[0])?, numbers(alloc, &[])?).is_none());
+    assert!(rt; box_of(alloc, &[0], &[])?.is_none());
     Ok(())
 }
 

@@ -6,7 +6,8 @@ use crate::{
     Answer, PlainSearch, Status, answer_of, answers_are_true, best_nodes_are_taken,
     histories_are_read, limits_are_met,
 };
-use ip_core::{Bounds, List, Model, ModelParts, Name, OutOfMemory, Row, Term, Text};
+use ip_core::OutOfMemory;
+use ip_core::dense::{DenseModel, DenseRow};
 use stamp_machine::{History, Limits, run_alone};
 use std::alloc::Global;
 use std::test::Fail;
@@ -18,63 +19,50 @@ fn limits(slots: u32, work: u64, store: u32) -> Limits
     Limits { slots, work, store }
 }
 
-/// A row of one coefficient for each column.
-fn row(alloc: Global, coefs: &[i64], least: i64) -> Result<Row, OutOfMemory> {
-    let mut terms = List::new(alloc);
-    let mut col = 0u32;
-    for coef in coefs {
-        if *coef != 0 {
-            terms.push(Term { col, coef: *coef })?;
-        }
-        col = col.wrapping_add(1);
-    }
-    Ok(Row { terms, least })
-}
-
-fn name(alloc: Global) -> Result<Name, Fail> {
-    let mut text = Text::new(alloc);
-    text.push(b'x')?;
-    Ok(Name::of(text).ok_or("a name")?)
-}
-
-/// A model whose columns have these costs and lie in 0 to `high`.
-fn model(alloc: Global, costs: &[i64], high: i64, rows: List<Row>) -> Result<Model, Fail> {
-    let mut cols = List::new(alloc);
-    let mut lows = List::new(alloc);
-    let mut highs = List::new(alloc);
-    for _cost in costs.iter().take(100) {
-        cols.push(name(alloc)?)?;
-        lows.push(0)?;
-        highs.push(high)?;
-    }
-    let root = if lows.len() <= 1_000 {
-        Bounds::of(lows, highs)
-    } else {
-        None
-    };
-    Ok(Model::of(ModelParts {
-        name: name(alloc)?,
-        cols,
-        costs: List::of(Vec::from_slice(alloc, costs)?),
-        constant: 0,
-        decimals: 0,
-        maximise: false,
-        root: root.ok_or("a box")?,
+/// The plain search of a model, whose columns have these costs and lie in 0 to `high`.
+fn search_of(
+    alloc: Global,
+    costs: &[i64],
+    high: i64,
+    rows: &[DenseRow],
+) -> Result<PlainSearch, Fail> {
+    let dense = DenseModel {
+        costs,
+        lows: &vec![in alloc; 0i64; costs.len()]?,
+        highs: &vec![in alloc; high; costs.len()]?,
         rows,
-    })
-    .ok_or("a model")?)
+    };
+    let model = dense.build(alloc)?.ok_or("a model")?;
+    Ok(PlainSearch::of(model))
 }
 
 /// The least x in 0 to 5 of which the double is at least 3.
 fn doubled(alloc: Global) -> Result<PlainSearch, Fail> {
-    let mut rows = List::new(alloc);
-    rows.push(row(alloc, &[2], 3)?)?;
-    Ok(PlainSearch::of(model(alloc, &[1], 5, rows)?))
+    let rows = [DenseRow {
+        coefs: &[2],
+        least: 3,
+    }];
+    search_of(alloc, &[1], 5, &rows)
 }
 
-/// Columns of cost 1 in 0 to 1, and no row.
+/// Columns in 0 to 1, and no row.
 fn free(alloc: Global, costs: &[i64]) -> Result<PlainSearch, Fail> {
-    Ok(PlainSearch::of(model(alloc, costs, 1, List::new(alloc))?))
+    search_of(alloc, costs, 1, &[])
+}
+
+/// Ten columns in 0 to 1, of which twice the sum is to be 9.
+fn odd_sum(alloc: Global) -> Result<PlainSearch, Fail> {
+    let rows = [
+        DenseRow {
+            coefs: &[2; 10],
+            least: 9,
+        },
+        DenseRow {
+            coefs: &[-2; 10],
+            least: -9,
+        },
+    ];
+    search_of(alloc, &[0; 10], 1, &rows)
 }
 
 /// The machine's history with its answer, which is true by the laws.
@@ -228,15 +216,15 @@ fn has_split(history: &History, slot: u32) -> bool {
 }
 
 // Twice a whole number isn't 9, which only the tree shows. Slots 1 and 2 wait until 1,000 and then take open nodes.
+fn all_take_part(alloc: Global) -> Result<bool, Fail> {
+    let search = odd_sum(alloc)?;
+    let (history, answer) = answer(alloc, &search, &limits(3, 1_000_000, 100_000))?;
+    let infeasible = is_answer(&answer, Status::Infeasible, None);
+    Ok(infeasible && has_split(&history, 1) && has_split(&history, 2))
+}
+
 #[test]
 fn all_slots_take_part(rt: HostRuntime) -> Result<(), Fail> {
-    let alloc = rt.alloc();
-    let mut rows = List::new(alloc);
-    rows.push(row(alloc, &[2; 10], 9)?)?;
-    rows.push(row(alloc, &[-2; 10], -9)?)?;
-    let search = PlainSearch::of(model(alloc, &[0; 10], 1, rows)?);
-    let (history, answer) = answer(alloc, &search, &limits(3, 1_000_000, 100_000))?;
-    assert!(rt; is_answer(&answer, Status::Infeasible, None));
-    assert!(rt; has_split(&history, 1) && has_split(&history, 2));
+    assert!(rt; all_take_part(rt.alloc())?);
     Ok(())
 }
