@@ -6,8 +6,8 @@ use crate::{
     Answer, PlainSearch, Status, answer_of, answers_are_true, best_nodes_are_taken,
     histories_are_read, limits_are_met,
 };
-use ip_core::OutOfMemory;
 use ip_core::dense::{DenseModel, DenseRow};
+use ip_core::{List, OutOfMemory};
 use stamp_machine::{History, Limits, run_alone};
 use std::alloc::Global;
 use std::test::Fail;
