@@ -26,10 +26,12 @@ fn search_of(
     high: i64,
     rows: &[DenseRow],
 ) -> Result<PlainSearch, Fail> {
+    let lows = vec![in alloc; 0i64; costs.len()]?;
+    let highs = vec![in alloc; high; costs.len()]?;
     let dense = DenseModel {
         costs,
-        lows: &vec![in alloc; 0i64; costs.len()]?,
-        highs: &vec![in alloc; high; costs.len()]?,
+        lows: &lows,
+        highs: &highs,
         rows,
     };
     let model = dense.build(alloc)?.ok_or("a model")?;
