@@ -1,6 +1,6 @@
 pub mod Counts
 pub mod Names
 pub mod OpenNodes
-pub mod Partings
+pub mod Origins
 pub mod Paths
 pub mod WorkedRows

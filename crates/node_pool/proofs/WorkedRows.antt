@@ -39,7 +39,8 @@ abbrev one_column : ModelParts
 one_column = columns ((120 ∷ []) ∷ []) (pos 1 ∷ []) (pos 0 ∷ []) (pos 1 ∷ []) []
 
 abbrev two_slots : List KeyedEntry
-two_slots = by 0 0 (Start 0) ∷ by 14 0 (Found (pos 0) (pos 0 ∷ [])) ∷ by 14 0 (Closed 0) ∷ by 14 0 Done ∷ []
+two_slots = by 0 0 (Start 0) ∷ by 14 0 (Found (pos 0) (pos 0 ∷ [])) ∷ by 14 0 (Closed 0)
+    ∷ by 14 0 Done ∷ []
 
 abbrev two_slots_after : ℕ → View
 two_slots_after n = view_of one_column (switches true true) (take n two_slots)
@@ -78,20 +79,23 @@ pub two_slots_end : two_slots_after 4 ≡ record {
   starts = 1;
   cut_starts = 0;
   heuristic_starts = 0;
-  halted = false;
+  has_halt = false;
 }
 two_slots_end = refl
 
 -- One column of cost 1 in 0 to 5, whose double is to be at least 3, on one slot with cuts.
 
 abbrev with_cuts : ModelParts
-with_cuts = columns ((120 ∷ []) ∷ []) (pos 1 ∷ []) (pos 0 ∷ []) (pos 5 ∷ []) (record { terms = record { col = 0; coef = pos 2 } ∷ []; least = pos 3 } ∷ [])
+with_cuts = columns ((120 ∷ []) ∷ []) (pos 1 ∷ []) (pos 0 ∷ []) (pos 5 ∷ [])
+    (record { terms = record { col = 0; coef = pos 2 } ∷ []; least = pos 3 } ∷ [])
 
 abbrev gomory : ℕ → ℕ → Entry
 gomory divisor weight = Cut (Gomory (record { row = Model 0; weight = weight } ∷ []) divisor)
 
 abbrev cut_loop : List KeyedEntry
-cut_loop = by 0 0 CutStart ∷ by 69 0 (gomory 2 1) ∷ by 69 0 (gomory 2048 512) ∷ by 248 0 Done ∷ by 248 0 (Start 0) ∷ by 377 0 (Found (pos 2) (pos 2 ∷ [])) ∷ by 377 0 (Closed 0) ∷ by 377 0 Done ∷ []
+cut_loop = by 0 0 CutStart ∷ by 69 0 (gomory 2 1) ∷ by 69 0 (gomory 2048 512) ∷ by 248 0 Done
+    ∷ by 248 0 (Start 0) ∷ by 377 0 (Found (pos 2) (pos 2 ∷ [])) ∷ by 377 0 (Closed 0)
+    ∷ by 377 0 Done ∷ []
 
 abbrev cut_loop_after : ℕ → View
 cut_loop_after n = view_of with_cuts (switches true true) (take n cut_loop)
@@ -124,13 +128,22 @@ no_cuts = refl
 -- Three columns of cost 0 in 0 to 1 and two rows, on one slot with heuristics.
 
 abbrev three_terms : ℤ → ℤ → Row
-three_terms coef least = record { terms = record { col = 0; coef = coef } ∷ record { col = 1; coef = coef } ∷ record { col = 2; coef = coef } ∷ []; least = least }
+three_terms coef least = record {
+  terms =
+      record { col = 0; coef = coef } ∷ record { col = 1; coef = coef }
+      ∷ record { col = 2; coef = coef } ∷ [];
+  least = least;
+}
 
 abbrev three_columns : ModelParts
-three_columns = columns ((120 ∷ []) ∷ (121 ∷ []) ∷ (122 ∷ []) ∷ []) (pos 0 ∷ pos 0 ∷ pos 0 ∷ []) (pos 0 ∷ pos 0 ∷ pos 0 ∷ []) (pos 1 ∷ pos 1 ∷ pos 1 ∷ []) (three_terms (pos 2) (pos 3) ∷ three_terms (negsuc 1) (negsuc 2) ∷ [])
+three_columns = columns ((120 ∷ []) ∷ (121 ∷ []) ∷ (122 ∷ []) ∷ []) (pos 0 ∷ pos 0 ∷ pos 0 ∷ [])
+    (pos 0 ∷ pos 0 ∷ pos 0 ∷ []) (pos 1 ∷ pos 1 ∷ pos 1 ∷ [])
+    (three_terms (pos 2) (pos 3) ∷ three_terms (negsuc 1) (negsuc 2) ∷ [])
 
 abbrev dives : List KeyedEntry
-dives = by 0 0 (Start 0) ∷ by 217 0 (Split 0 0 (pos 0) 4 0 (pos 0)) ∷ by 225 0 (Closed 4) ∷ by 225 0 Done ∷ by 225 0 (HeurStart 5) ∷ by 240 0 Done ∷ by 240 0 (Start 5) ∷ by 255 0 (Closed 5) ∷ by 255 0 Done ∷ []
+dives = by 0 0 (Start 0) ∷ by 217 0 (Split 0 0 (pos 0) 4 0 (pos 0)) ∷ by 225 0 (Closed 4)
+    ∷ by 225 0 Done ∷ by 225 0 (HeurStart 5) ∷ by 240 0 Done ∷ by 240 0 (Start 5)
+    ∷ by 255 0 (Closed 5) ∷ by 255 0 Done ∷ []
 
 abbrev dives_after : ℕ → View
 dives_after n = view_of three_columns (switches false true) (take n dives)
@@ -145,10 +158,12 @@ dives_split = refl
 pub dives_open : (dives_after 2).open_nodes ≡ open_node 5 (pos 0) ∷ []
 dives_open = refl
 
-pub dives_low_box : box_of three_columns.root (dives_after 2).branches 4 ≡ record { lows = pos 0 ∷ pos 0 ∷ pos 0 ∷ []; highs = pos 0 ∷ pos 1 ∷ pos 1 ∷ [] }
+pub dives_low_box : box_of three_columns.root (dives_after 2).branches 4
+    ≡ record { lows = pos 0 ∷ pos 0 ∷ pos 0 ∷ []; highs = pos 0 ∷ pos 1 ∷ pos 1 ∷ [] }
 dives_low_box = refl
 
-pub dives_high_box : box_of three_columns.root (dives_after 2).branches 5 ≡ record { lows = pos 1 ∷ pos 0 ∷ pos 0 ∷ []; highs = pos 1 ∷ pos 1 ∷ pos 1 ∷ [] }
+pub dives_high_box : box_of three_columns.root (dives_after 2).branches 5
+    ≡ record { lows = pos 1 ∷ pos 0 ∷ pos 0 ∷ []; highs = pos 1 ∷ pos 1 ∷ pos 1 ∷ [] }
 dives_high_box = refl
 
 -- after one start and no dive a dive is due
@@ -180,7 +195,7 @@ pub dives_view : dives_after 9 ≡ record {
   starts = 2;
   cut_starts = 0;
   heuristic_starts = 1;
-  halted = false;
+  has_halt = false;
 }
 dives_view = refl
 
@@ -189,8 +204,9 @@ pub no_dives : pick_of (view_of three_columns (switches false false) (take 4 div
 no_dives = refl
 
 -- a Halt ends the search, whatever is open
-pub halted : pick_of (view_of three_columns (switches false true) (take 4 dives ++ by 225 0 Halt ∷ [])) ≡ Over
-halted = refl
+pub halt_ends : pick_of (view_of three_columns (switches false true)
+    (take 4 dives ++ by 225 0 Halt ∷ [])) ≡ Over
+halt_ends = refl
 
 -- the names of both children are known, and no others but 0
 abbrev known_after : ℕ → List ℕ → List Bool
@@ -204,10 +220,13 @@ pub known_names_before : known_after 1 (0 ∷ 4 ∷ 5 ∷ []) ≡ true ∷ false
 known_names_before = refl
 
 -- the lesser bound goes first, then the lesser name
-abbrev parted : List KeyedEntry
-parted = by 0 0 (Start 0) ∷ by 1 0 (Split 0 0 (pos 0) 8 2 (pos 3)) ∷ by 2 0 (Start 8) ∷ by 3 0 (Split 8 1 (pos 0) 4 2 (pos 3)) ∷ by 4 0 (Start 9) ∷ by 5 0 (Split 9 1 (pos 0) 12 2 (pos 2)) ∷ []
+abbrev three_splits : List KeyedEntry
+three_splits = by 0 0 (Start 0) ∷ by 1 0 (Split 0 0 (pos 0) 8 2 (pos 3)) ∷ by 2 0 (Start 8)
+    ∷ by 3 0 (Split 8 1 (pos 0) 4 2 (pos 3)) ∷ by 4 0 (Start 9)
+    ∷ by 5 0 (Split 9 1 (pos 0) 12 2 (pos 2)) ∷ []
 
-pub order : (view_of three_columns (switches false false) parted).open_nodes ≡ open_node 12 (pos 2) ∷ open_node 13 (pos 2) ∷ open_node 4 (pos 3) ∷ open_node 5 (pos 3) ∷ []
+pub order : (view_of three_columns (switches false false) three_splits).open_nodes
+    ≡ open_node 12 (pos 2) ∷ open_node 13 (pos 2) ∷ open_node 4 (pos 3) ∷ open_node 5 (pos 3) ∷ []
 order = refl
 
 -- the picks after each number of entries, of the three histories
@@ -216,11 +235,15 @@ abbrev picks_at : (ℕ → View) → List ℕ → List Pick
 picks_at views [] = []
 picks_at views (n ∷ ns) = pick_of (views n) ∷ picks_at views ns
 
-pub two_slots_picks : picks_at two_slots_after (0 ∷ 1 ∷ 2 ∷ 3 ∷ 4 ∷ []) ≡ Node 0 ∷ Nothing ∷ Nothing ∷ Over ∷ Over ∷ []
+pub two_slots_picks : picks_at two_slots_after (0 ∷ 1 ∷ 2 ∷ 3 ∷ 4 ∷ [])
+    ≡ Node 0 ∷ Nothing ∷ Nothing ∷ Over ∷ Over ∷ []
 two_slots_picks = refl
 
-pub cut_loop_picks : picks_at cut_loop_after (0 ∷ 1 ∷ 2 ∷ 3 ∷ 4 ∷ 5 ∷ 6 ∷ 7 ∷ 8 ∷ []) ≡ CutLoop ∷ Node 0 ∷ Node 0 ∷ Node 0 ∷ Node 0 ∷ Nothing ∷ Nothing ∷ Over ∷ Over ∷ []
+pub cut_loop_picks : picks_at cut_loop_after (0 ∷ 1 ∷ 2 ∷ 3 ∷ 4 ∷ 5 ∷ 6 ∷ 7 ∷ 8 ∷ [])
+    ≡ CutLoop ∷ Node 0 ∷ Node 0 ∷ Node 0 ∷ Node 0 ∷ Nothing ∷ Nothing ∷ Over ∷ Over ∷ []
 cut_loop_picks = refl
 
-pub dives_picks : picks_at dives_after (0 ∷ 1 ∷ 2 ∷ 3 ∷ 4 ∷ 5 ∷ 6 ∷ 7 ∷ 8 ∷ 9 ∷ []) ≡ Node 0 ∷ Nothing ∷ Heuristic 5 ∷ Heuristic 5 ∷ Heuristic 5 ∷ Node 5 ∷ Node 5 ∷ Nothing ∷ Over ∷ Over ∷ []
+pub dives_picks : picks_at dives_after (0 ∷ 1 ∷ 2 ∷ 3 ∷ 4 ∷ 5 ∷ 6 ∷ 7 ∷ 8 ∷ 9 ∷ [])
+    ≡ Node 0 ∷ Nothing ∷ Heuristic 5 ∷ Heuristic 5 ∷ Heuristic 5 ∷ Node 5 ∷ Node 5 ∷ Nothing ∷ Over
+    ∷ Over ∷ []
 dives_picks = refl

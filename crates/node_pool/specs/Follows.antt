@@ -6,9 +6,9 @@ use Rattle.ip_core.specs.declared.model.ModelParts.{ModelParts}
 use Rattle.work_stamp.specs.declared.entry.Entry.{Entry}
 use Rattle.work_stamp.specs.declared.entry.Entry.TheVariants.{Start, CutStart, HeurStart, Done, Found, Cut, Split, Closed, Halt}
 use Rattle.work_stamp.specs.declared.stamped.KeyedEntry.{KeyedEntry}
-use Rattle.node_pool.specs.Branchings.{IsRoomy}
+use Rattle.node_pool.specs.Branchings.{HasSuccessors}
 use Rattle.node_pool.specs.Nodes.{first_named}
-use Rattle.node_pool.specs.Trees.{child_bound, parting_of}
+use Rattle.node_pool.specs.Trees.{child_bound, branch_of}
 use Rattle.node_pool.specs.Views.{View, is_known, view_of}
 use Rattle.node_pool.specs.declared.node.OpenNode.{OpenNode}
 
@@ -27,19 +27,20 @@ pub record IsValued (m : ModelParts) (value : ℤ) (point : List ℤ) : Type 0 w
   pub told : value ≡ value_at m point
 
 -- a column of the model, a value from -2^31 to 2^31, and a child to keep that is one of three
-pub record IsCut (m : ModelParts) (col : ℕ) (at : ℤ) (keep : ℕ) : Type 0 where
+pub record IsSplitPoint (m : ModelParts) (col : ℕ) (at : ℤ) (keep : ℕ) : Type 0 where
   pub known : col < length m.cols
   pub above : neg_ℤ (pos (2 ^ 31)) ≤ℤ at
   pub below : at ≤ℤ pos (2 ^ 31)
   pub keeps : keep ≤ 2
 
 -- a held node may be split at a column of the model, into children whose names are new
-pub record MaySplit (m : ModelParts) (v : View) (node col : ℕ) (at : ℤ) (first keep : ℕ) : Type 0 where
-  pub held : IsHeld v node
-  pub cut : IsCut m col at keep
-  pub room : first < 2 ^ 64 - 1
-  pub first_new : is_known v first ≡ false
-  pub second_new : is_known v (first + 1) ≡ false
+pub record MaySplit (m : ModelParts) (v : View) (node col : ℕ) (at : ℤ) (first keep : ℕ) : Type 0
+  where
+    pub held : IsHeld v node
+    pub cut : IsSplitPoint m col at keep
+    pub room : first < 2 ^ 64 - 1
+    pub first_new : is_known v first ≡ false
+    pub second_new : is_known v (first + 1) ≡ false
 
 -- by the kind of entry; there are no cuts yet, and no points are looked for from open nodes
 abbrev pub MayJoin : ModelParts → View → Entry → Type 0
@@ -66,7 +67,7 @@ pub record CanJoin (m : ModelParts) (v : View) (entry : Entry) : Type 0 where
 
 -- the numbers of a split leave room for one more, and the names of its children are new
 pub record IsNewSplit (v : View) (at : ℤ) (first : ℕ) : Type 0 where
-  pub roomy : IsRoomy at first
+  pub successors : HasSuccessors at first
   pub first_new : is_known v first ≡ false
   pub second_new : is_known v (first + 1) ≡ false
 
@@ -82,11 +83,12 @@ HasNewSplit v (Split node col at first keep bound) = IsNewSplit v at first
 HasNewSplit v (Closed node) = Unit {0}
 HasNewSplit v Halt = Unit {0}
 
--- a node that may be opened: no open node has its name, which isn't 0, and a split gives it its bound
+-- a node that may be opened: no open node has its name, which isn't 0, and a split gives it its
+-- bound
 pub record IsFresh (v : View) (node : OpenNode) : Type 0 where
   pub apart : first_named node.name v.open_nodes ≡ None
   pub named : nat_eq node.name 0 ≡ false
-  pub bound : child_bound (parting_of v.branches node.name) ≡ Some node.bound
+  pub bound : child_bound (branch_of v.branches node.name) ≡ Some node.bound
 
 -- no count of entries of one kind is above that of all
 pub record AreCounted (v : View) : Type 0 where

@@ -13,7 +13,8 @@ use Rattle.node_pool.specs.Views.{View, fresh_view, is_known, after_entry, view_
 use Rattle.node_pool.specs.declared.node.OpenNode.{OpenNode}
 use Rattle.node_pool.specs.declared.settings.SearchSettings.{SearchSettings}
 
--- a node comes no later than another: its bound is less, or the bounds are equal and its name is not greater
+-- a node comes no later than another: its bound is less, or the bounds are equal and its name is
+-- not greater
 abbrev pub IsNoLater : OpenNode → OpenNode → Type 0
 IsNoLater a b = (a.bound <ℤ b.bound) ⊎ ((a.bound ≡ b.bound) × (a.name ≤ b.name))
 
@@ -26,23 +27,35 @@ pub record IsBest (v : View) (name : ℕ) : Type 0 where
 
 -- at every history the best open node has the least bound, and of those the least name
 abbrev pub BestIsLeast : Type 0
-BestIsLeast = (m : ModelParts) (settings : SearchSettings) (history : List KeyedEntry) (name : ℕ) → best_open (view_of m settings history) ≡ Some name → IsBest (view_of m settings history) name
+BestIsLeast = (m : ModelParts) (settings : SearchSettings) (history : List KeyedEntry) (name : ℕ)
+    → best_open (view_of m settings history) ≡ Some name → IsBest (view_of m settings history) name
 
 -- every node that is open or held has a known name
 pub record AreKnown (v : View) : Type 0 where
   pub opened : All (λ node. is_known v node.name ≡ true) v.open_nodes
   pub held : All (λ name. is_known v name ≡ true) v.held_nodes
 
--- The names of nodes are known at first and after each entry that may follow. The root has the root box, a split gives its
--- children the two parts of its node's box, and the box of a name that is known never changes.
+-- The names of nodes are known at first and after each entry that may follow. The root has the root
+-- box, a split gives its children the two parts of its node's box, and the box of a name that is
+-- known never changes.
 pub record BoxesAreParts : Type 0 where
-  pub known_at_first : (m : ModelParts) (settings : SearchSettings) → AreKnown (fresh_view m settings)
-  pub known_after : (m : ModelParts) (v : View) (e : Entry) → AreKnown v → MayFollow m v e → AreKnown (after_entry v e)
-  pub root : (m : ModelParts) (settings : SearchSettings) (root : Sides) → box_of root (fresh_view m settings).branches 0 ≡ root
-  pub low : (v : View) (root : Sides) (node col : ℕ) (at : ℤ) (first keep : ℕ) (bound : ℤ) → box_of root (after_entry v (Split node col at first keep bound)).branches first ≡ low_child (box_of root v.branches node) col at
-  pub high : (v : View) (root : Sides) (node col : ℕ) (at : ℤ) (first keep : ℕ) (bound : ℤ) → box_of root (after_entry v (Split node col at first keep bound)).branches (first + 1) ≡ high_child (box_of root v.branches node) col at
-  pub stays : (m : ModelParts) (v : View) (e : Entry) (root : Sides) (name : ℕ) → MayFollow m v e → is_known v name ≡ true → box_of root (after_entry v e).branches name ≡ box_of root v.branches name
+  pub known_at_first : (m : ModelParts) (settings : SearchSettings)
+      → AreKnown (fresh_view m settings)
+  pub known_after : (m : ModelParts) (v : View) (e : Entry) → AreKnown v → MayFollow m v e
+      → AreKnown (after_entry v e)
+  pub root : (m : ModelParts) (settings : SearchSettings) (root : Sides)
+      → box_of root (fresh_view m settings).branches 0 ≡ root
+  pub low : (v : View) (root : Sides) (node col : ℕ) (at : ℤ) (first keep : ℕ) (bound : ℤ)
+      → box_of root (after_entry v (Split node col at first keep bound)).branches first
+      ≡ low_child (box_of root v.branches node) col at
+  pub high : (v : View) (root : Sides) (node col : ℕ) (at : ℤ) (first keep : ℕ) (bound : ℤ)
+      → box_of root (after_entry v (Split node col at first keep bound)).branches (first + 1)
+      ≡ high_child (box_of root v.branches node) col at
+  pub stays : (m : ModelParts) (v : View) (e : Entry) (root : Sides) (name : ℕ) → MayFollow m v e
+      → is_known v name ≡ true → box_of root (after_entry v e).branches name
+      ≡ box_of root v.branches name
 
 -- a view counts each entry of its history
 abbrev pub EntriesAreCounted : Type 0
-EntriesAreCounted = (m : ModelParts) (settings : SearchSettings) (history : List KeyedEntry) → (view_of m settings history).entries ≡ length history
+EntriesAreCounted = (m : ModelParts) (settings : SearchSettings) (history : List KeyedEntry)
+    → (view_of m settings history).entries ≡ length history

@@ -2,7 +2,8 @@ use Rattle.std.specs.Prelude.{ℕ, ◌≡◌, ◌<◌, length, remove, Bool, ◌
 use Rattle.std.specs.Ordering.{int_eq}
 use Rattle.node_pool.specs.declared.node.OpenNode.{OpenNode}
 
--- whether a node is picked before another: it has the lesser bound, or the same bound and the lesser name
+-- whether a node is picked before another: it has the lesser bound, or the same bound and the
+-- lesser name
 abbrev pub is_before : OpenNode → OpenNode → Bool
 is_before a b = int_lt a.bound b.bound || (int_eq a.bound b.bound && nat_lt a.name b.name)
 

@@ -13,7 +13,8 @@ first_name (x ∷ xs) = Some x.name
 abbrev pub best_open : View → Option ℕ
 best_open v = first_name v.open_nodes
 
--- whether cuts are to be looked for first: they are on, the model has a row, and no task has looked for them
+-- whether cuts are to be looked for first: they are on, the model has a row, and no task has looked
+-- for them
 abbrev pub wants_cuts : View → Bool
 wants_cuts v = v.settings.cuts && v.has_rows && nat_eq v.cut_starts 0
 
@@ -28,4 +29,5 @@ node_pick heuristic (Some node) = if heuristic then Heuristic node else Node nod
 
 -- the first that applies
 abbrev pub pick_of : View → Pick
-pick_of v = if v.halted || is_finished v then Over else if wants_cuts v then CutLoop else node_pick (wants_heuristic v) (best_open v)
+pick_of v = if v.has_halt || is_finished v then Over else if wants_cuts v then CutLoop
+    else node_pick (wants_heuristic v) (best_open v)

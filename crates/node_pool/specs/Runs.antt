@@ -9,9 +9,9 @@ use Rattle.node_pool.specs.Views.{View, view_of}
 use Rattle.node_pool.specs.declared.settings.SearchSettings.{SearchSettings}
 
 -- entries whose keys don't matter
-abbrev pub unkeyed : List Entry → List KeyedEntry
-unkeyed [] = []
-unkeyed (e ∷ es) = keyed_entry (record { stamp = 0; slot = 0 }) e ∷ unkeyed es
+abbrev pub without_keys : List Entry → List KeyedEntry
+without_keys [] = []
+without_keys (e ∷ es) = keyed_entry (record { stamp = 0; slot = 0 }) e ∷ without_keys es
 
 abbrev pub dives : SearchSettings
 dives = record { cuts = false; heuristics = true }
@@ -21,4 +21,4 @@ abbrev pub split_root : Entry
 split_root = Split 0 0 (pos 0) 4 0 (pos 0)
 
 abbrev pub dives_view : ModelParts → View
-dives_view m = view_of m dives (unkeyed (Start 0 ∷ split_root ∷ Closed 4 ∷ Done ∷ []))
+dives_view m = view_of m dives (without_keys (Start 0 ∷ split_root ∷ Closed 4 ∷ Done ∷ []))

@@ -33,7 +33,7 @@ pub record View : Type 0 where
   pub cut_starts : ℕ
   pub heuristic_starts : ℕ
   -- whether a Halt stands
-  pub halted : Bool
+  pub has_halt : Bool
 
 abbrev pub open_node : ℕ → ℤ → OpenNode
 open_node name bound = record { name = name; bound = bound }
@@ -52,14 +52,26 @@ fresh_view m settings = record {
   starts = 0;
   cut_starts = 0;
   heuristic_starts = 0;
-  halted = false;
+  has_halt = false;
 }
 
--- the children of a node come in: the first or the second is held and the other open, or both are open
+-- the children of a node come in: the first or the second is held and the other open, or both are
+-- open
 abbrev pub with_children : View → OpenNode → OpenNode → ℕ → View
-with_children v low high zero = record v { held_nodes = v.held_nodes ++ low.name ∷ []; open_nodes = insert_open high v.open_nodes }
-with_children v low high (suc zero) = record v { held_nodes = v.held_nodes ++ high.name ∷ []; open_nodes = insert_open low v.open_nodes }
-with_children v low high (suc (suc more)) = record v { open_nodes = insert_open high (insert_open low v.open_nodes) }
+with_children v low high zero =
+    record v {
+      held_nodes = v.held_nodes ++ low.name ∷ [];
+      open_nodes =
+          insert_open high v.open_nodes;
+    }
+with_children v low high (suc zero) =
+    record v {
+      held_nodes = v.held_nodes ++ high.name ∷ [];
+      open_nodes =
+          insert_open low v.open_nodes;
+    }
+with_children v low high (suc (suc more)) =
+    record v { open_nodes = insert_open high (insert_open low v.open_nodes) }
 
 -- a held node that is done with
 abbrev pub without_held : View → ℕ → View
@@ -70,16 +82,23 @@ with_branch v b = record v { branches = v.branches ++ b ∷ [] }
 
 -- what an entry changes, but for the count of all entries; there are no cuts yet
 abbrev pub with_effect : View → Entry → View
-with_effect v (Start node) = record v { open_nodes = without_node node v.open_nodes; held_nodes = v.held_nodes ++ node ∷ []; starts = v.starts + 1 }
+with_effect v (Start node) =
+    record v {
+      open_nodes = without_node node v.open_nodes;
+      held_nodes = v.held_nodes ++ node ∷ [];
+      starts = v.starts + 1;
+    }
 with_effect v CutStart = record v { cut_starts = v.cut_starts + 1 }
 with_effect v (HeurStart node) = record v { heuristic_starts = v.heuristic_starts + 1 }
 with_effect v Done = v
 with_effect v (Found value point) = record v { cutoff = int_min v.cutoff value }
 with_effect v (Cut derivation) = v
 with_effect v (Split node col at first keep bound) =
-    with_children (with_branch (without_held v node) (record { node = node; col = col; at = at; first = first; bound = bound })) (open_node first bound) (open_node (first + 1) bound) keep
+    with_children (with_branch (without_held v node)
+    (record { node = node; col = col; at = at; first = first; bound = bound }))
+    (open_node first bound) (open_node (first + 1) bound) keep
 with_effect v (Closed node) = without_held v node
-with_effect v Halt = record v { halted = true }
+with_effect v Halt = record v { has_halt = true }
 
 -- the view after one more entry
 abbrev pub after_entry : View → Entry → View

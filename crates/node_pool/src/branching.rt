@@ -1,11 +1,11 @@
 ghost use Rattle.std.specs.Prelude.{◌≡◌};
-ghost use Rattle.node_pool.specs.Branchings.{IsRoomy, change_for};
+ghost use Rattle.node_pool.specs.Branchings.{HasSuccessors, change_for};
 
 use crate::bound_change::BoundChange;
 use std::marker::Model;
 
-/// A node that is parted in two: `first` with the column at most `at`, and the next name with it at least `at + 1`. Both
-/// have the same bound.
+/// A node that is split in two: `first` with the column at most `at`, and the next name with it at
+/// least `at + 1`. Both have the same bound.
 #[derive(Debug, Drop)]
 pub struct Branching {
     node: u64,
@@ -16,20 +16,27 @@ pub struct Branching {
 }
 
 impl Model for Branching {
-    ghost use Rattle.node_pool.specs.Branchings.{Branch, IsRoomy};
+    ghost use Rattle.node_pool.specs.Branchings.{Branch, HasSuccessors};
 
     ghost Value = { Branch };
 
-    ghost view = { λ b. record { node = b.node; col = b.col; at = b.at; first = b.first; bound = b.bound } };
+    ghost view = { λ b. record {
+      node = b.node;
+      col = b.col;
+      at = b.at;
+      first = b.first;
+      bound = b.bound;
+    } };
 
-    ghost invariant = { λ b. IsRoomy b.at b.first };
+    ghost invariant = { λ b. HasSuccessors b.at b.first };
 }
 
 impl Branching {
-    /// A node parted at a column.
+    /// A node split at a column.
     pub fn of(node: u64, col: u32, at: i64, first: u64, bound: i64) -> Branching
-        requires { IsRoomy at first }
-        ensures { result ≡ record { node = node; col = col; at = at; first = first; bound = bound } }
+        requires { HasSuccessors at first }
+        ensures { result ≡
+            record { node = node; col = col; at = at; first = first; bound = bound } }
     {
         Branching {
             node,
@@ -40,7 +47,7 @@ impl Branching {
         }
     }
 
-    /// The name of the node that is parted.
+    /// The name of the node that is split.
     pub fn node(&self) -> u64
         ensures { result ≡ self.now.node }
     {

@@ -1,13 +1,14 @@
 ghost use Rattle.node_pool.specs.Laws.{BestIsLeast, BoxesAreParts, EntriesAreCounted};
 
-/// A law of the pool, with nothing to run: at every history the best open node has the least bound, and of those the least
-/// name.
+/// A law of the pool, with nothing to run: at every history the best open node has the least bound,
+/// and of those the least name.
 pub fn best_is_least()
     ensures { BestIsLeast }
 {}
 
-/// A law of the pool, with nothing to run: the root has the root box, a split gives its children the two parts of its
-/// node's box, and the box of a node never changes after that, since the names of nodes are known and a split's are new.
+/// A law of the pool, with nothing to run: the root has the root box, a split gives its children
+/// the two parts of its node's box, and the box of a node never changes after that, since the names
+/// of nodes are known and a split's are new.
 pub fn boxes_are_parts()
     ensures { BoxesAreParts }
 {}

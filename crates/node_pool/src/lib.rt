@@ -1,7 +1,7 @@
 //! The pool of open nodes: what the history of a search comes to.
 //!
-//! The history's entries are absorbed one after the other. The pool then tells which node is the best to go on with, what
-//! a slot between tasks takes, and the box of a node.
+//! The history's entries are absorbed one after the other. The pool then tells which node is the
+//! best to go on with, what a slot between tasks takes, and the box of a node.
 #![tactic(auto)]
 
 mod bound_change;

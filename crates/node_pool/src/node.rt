@@ -4,8 +4,8 @@ ghost use Rattle.node_pool.specs.Nodes.{IsNameAt, first_named, insert_open as in
 use ip_core::OutOfMemory;
 use std::collections::BTreeSet;
 
-/// An open node: a bound below which no feasible point of its box has its value, and its name. Open nodes are in the order
-/// of their bounds, and where those are equal in the order of their names.
+/// An open node: a bound below which no feasible point of its box has its value, and its name. Open
+/// nodes are in the order of their bounds, and where those are equal in the order of their names.
 #[derive(Clone, Copy, Debug, PartialEq, Eq, PartialOrd, Ord)]
 pub struct OpenNode {
     pub bound: i64,
@@ -34,7 +34,8 @@ pub fn remove_name(names: &mut Vec<u64>, name: u64)
 
 /// The first place of a name.
 fn name_place(names: &[u64], name: u64) -> Option<usize>
-    ensures { MatchOption result (without_name name names.now ≡ names.now) (λ place. IsNameAt names.now name place) }
+    ensures { MatchOption result (without_name name names.now ≡ names.now)
+        (λ place. IsNameAt names.now name place) }
 {
     for place in 0..names.len() {
         if names[place] == name {

@@ -1,6 +1,7 @@
 use crate::bound_change::BoundChange;
 
-/// How a node came to be: the place of the parting that made it, the change of its parent's box, and its parent.
+/// How a node came to be: the place of the branching that made it, the change of its parent's box,
+/// and its parent.
 #[derive(Clone, Copy)]
 pub struct Origin {
     pub place: usize,

@@ -17,9 +17,10 @@ use std::alloc::Global;
 use std::collections::BTreeSet;
 use work_stamp::Entry;
 
-/// The view of a search's history: the nodes that are open, those that a task holds, the value that a point must be below
-/// to be worth finding, the cuts, and counts of entries. The open nodes are an ordered set, the best first. Nodes have no
-/// boxes here; a box is made along a node's path in the tree.
+/// The view of a search's history: the nodes that are open, those that a task holds, the value that
+/// a point must be below to be worth finding, the cuts, and counts of entries. The open nodes are
+/// an ordered set, the best first. Nodes have no boxes here; a box is made along a node's path in
+/// the tree.
 #[derive(Debug, Drop)]
 pub struct Pool {
     settings: SearchSettings,
@@ -33,7 +34,7 @@ pub struct Pool {
     starts: u64,
     cut_starts: u64,
     heuristic_starts: u64,
-    halted: bool,
+    has_halt: bool,
 }
 
 impl std::marker::Model for Pool {
@@ -42,14 +43,27 @@ impl std::marker::Model for Pool {
 
     ghost Value = { View };
 
-    ghost view = { λ p. record { settings = p.settings; has_rows = p.has_rows; open_nodes = p.open_nodes.keys; held_nodes = p.held_nodes.items; branches = p.tree.branches; cutoff = p.cutoff; cuts = p.cuts.items; entries = p.entries; starts = p.starts; cut_starts = p.cut_starts; heuristic_starts = p.heuristic_starts; halted = p.halted } };
+    ghost view = { λ p. record {
+      settings = p.settings;
+      has_rows = p.has_rows;
+      open_nodes = p.open_nodes.keys;
+      held_nodes = p.held_nodes.items;
+      branches = p.tree.branches;
+      cutoff = p.cutoff;
+      cuts = p.cuts.items;
+      entries = p.entries;
+      starts = p.starts;
+      cut_starts = p.cut_starts;
+      heuristic_starts = p.heuristic_starts;
+      has_halt = p.has_halt;
+    } };
 
     ghost invariant = { λ p. HasBounds p.tree p.open_nodes.keys };
 }
 
 impl Pool {
-    /// The view of the history without entries: node 0 is open with the least value of the costs on the root box as its
-    /// bound, and the cutoff is the greatest such value plus 1.
+    /// The view of the history without entries: node 0 is open with the least value of the costs on
+    /// the root box as its bound, and the cutoff is the greatest such value plus 1.
     #[tactic(auto, using(ip_core::proofs::Reaching::root_within_reach, crate::proofs::OpenNodes::bounds_at_first))]
     pub fn new(alloc: Global, model: &Model, settings: SearchSettings) -> Result<Pool, OutOfMemory>
         ensures { IfOk result (λ pool. pool ≡ fresh_view model.now settings) }
@@ -70,11 +84,12 @@ impl Pool {
             starts: 0,
             cut_starts: 0,
             heuristic_starts: 0,
-            halted: false,
+            has_halt: false,
         })
     }
 
-    /// Appends an entry that may follow the history of the model's search. After want of memory the pool is used no more.
+    /// Appends an entry that may follow the history of the model's search. After want of memory the
+    /// pool is used no more.
     pub fn absorb(&mut self, model: &Model, entry: &Entry) -> Result<(), OutOfMemory>
         requires { CanJoin model.now self.old entry.now }
         ensures { OnOk result (self.new ≡ after_entry self.old entry.now) }
@@ -104,7 +119,7 @@ impl Pool {
                 bound,
             } => self.split(*node, *col, *at, *first, *keep, *bound)?,
             Entry::Closed { node } => remove_name(&mut self.held_nodes, *node),
-            Entry::Halt => self.halted = true,
+            Entry::Halt => self.has_halt = true,
             Entry::Done | Entry::Cut { .. } => {}
         }
         Ok(())
@@ -121,10 +136,12 @@ impl Pool {
         Ok(())
     }
 
-    /// Takes an open node out, which stands among the others with the bound that the tree has for it.
-    #[tactic(auto, using(crate::proofs::OpenNodes::remove_is, crate::proofs::OpenNodes::absent_is, crate::proofs::OpenNodes::bounds_without))]
+    /// Takes an open node out, which stands among the others with the bound that the tree has for
+    /// it.
+    #[tactic(auto, using(crate::proofs::OpenNodes::absent_is))]
     fn remove_open(&mut self, name: u64)
-        ensures { self.new ≡ record self.old { open_nodes = without_node name self.old.open_nodes } }
+        ensures { self.new ≡
+            record self.old { open_nodes = without_node name self.old.open_nodes } }
     {
         if let Some(node) = self.tree.node_of(name) {
             self.open_nodes.remove(&node);
@@ -142,7 +159,8 @@ impl Pool {
         bound: i64,
     ) -> Result<(), OutOfMemory>
         requires { IsNewSplit self.old at first }
-        ensures { OnOk result (self.new ≡ with_effect self.old (Split node col at first keep bound)) }
+        ensures { OnOk result
+            (self.new ≡ with_effect self.old (Split node col at first keep bound)) }
     {
         remove_name(&mut self.held_nodes, node);
         self.tree.push(Branching::of(node, col, at, first, bound))?;
@@ -154,7 +172,8 @@ impl Pool {
         self.add_children(low, high, keep)
     }
 
-    /// Takes in the children of a node: the first or the second is held and the other open, or both are open.
+    /// Takes in the children of a node: the first or the second is held and the other open, or both
+    /// are open.
     fn add_children(&mut self, low: OpenNode, high: OpenNode, keep: u8) -> Result<(), OutOfMemory>
         requires low { IsFresh self.old low }
         requires high { IsFresh self.old high }
@@ -181,14 +200,15 @@ impl Pool {
     #[tactic(auto, using(crate::proofs::OpenNodes::bounds_with))]
     fn add_open(&mut self, node: OpenNode) -> Result<(), OutOfMemory>
         requires { IsFresh self.old node }
-        ensures { OnOk result (self.new ≡ record self.old { open_nodes = insert_open_of node self.old.open_nodes }) }
+        ensures { OnOk result (self.new ≡
+            record self.old { open_nodes = insert_open_of node self.old.open_nodes }) }
     {
         insert_open(&mut self.open_nodes, node)?;
         Ok(())
     }
 
-    /// The name of the open node of the least bound, and of those the one of the least name; None exactly where no node
-    /// is open.
+    /// The name of the open node of the least bound, and of those the one of the least name; None
+    /// exactly where no node is open.
     pub fn best_open(&self) -> Option<u64>
         ensures { result ≡ best_open_of self.now }
     {
@@ -219,12 +239,13 @@ impl Pool {
 
     /// Whether a Halt stands.
     pub fn has_halt(&self) -> bool
-        ensures { result ≡ self.now.halted }
+        ensures { result ≡ self.now.has_halt }
     {
-        self.halted
+        self.has_halt
     }
 
-    /// The box of a node: the root box of the model, cut by the splits on the way from the root to it.
+    /// The box of a node: the root box of the model, cut by the splits on the way from the root to
+    /// it.
     pub fn bounds_of(&self, alloc: Global, model: &Model, node: u64) -> Result<Bounds, OutOfMemory>
         ensures { IfOk result (λ box. box ≡ box_of model.now.root self.now.branches node) }
     {
@@ -234,14 +255,14 @@ impl Pool {
         Ok(bounds)
     }
 
-    /// What a slot between tasks takes: the first that applies. Over, where a Halt stands, or no node is open or held.
-    /// CutLoop, where cuts are on, the model has a row and no task has looked for cuts. Heuristic of the best open node,
-    /// where heuristics are on and 8 times the number of their starts is below the number of starts. Node of the best open
-    /// node. Nothing.
+    /// What a slot between tasks takes: the first that applies. Over, where a Halt stands, or no
+    /// node is open or held. CutLoop, where cuts are on, the model has a row and no task has looked
+    /// for cuts. Heuristic of the best open node, where heuristics are on and 8 times the number of
+    /// their starts is below the number of starts. Node of the best open node. Nothing.
     pub fn pick(&self) -> Pick
         ensures { result ≡ pick_of self.now }
     {
-        if self.halted || self.is_finished() {
+        if self.has_halt || self.is_finished() {
             return Pick::Over;
         }
         if self.wants_cuts() {
@@ -266,7 +287,8 @@ impl Pool {
         self.settings.cuts && self.has_rows && self.cut_starts == 0
     }
 
-    /// Whether a feasible point is to be looked for from an open node: at most once in eight starts.
+    /// Whether a feasible point is to be looked for from an open node: at most once in eight
+    /// starts.
     fn wants_heuristic(&self) -> bool
         ensures { result ≡ wants_heuristic_of self.now }
     {

@@ -1,4 +1,5 @@
-/// What a search may do beside parting boxes: derive cuts, and look for feasible points from open nodes.
+/// What a search may do beside splitting boxes: derive cuts, and look for feasible points from open
+/// nodes.
 #[derive(Clone, Copy, Debug, PartialEq, Eq)]
 pub struct SearchSettings {
     pub cuts: bool,

@@ -10,8 +10,8 @@ use ip_core::OutOfMemory;
 use std::alloc::Global;
 use std::collections::BTreeMap;
 
-/// The tree of a search: the bound of the root, and each node that is parted, in order. A parting is found by the name of
-/// its first child.
+/// The tree of a search: the bound of the root, and each node that is split, in order. A branching
+/// is found by the name of its first child.
 #[derive(Debug, Drop)]
 pub struct SearchTree {
     root_bound: i64,
@@ -30,8 +30,8 @@ impl std::marker::Model for SearchTree {
 }
 
 impl SearchTree {
-    /// The tree of a root that isn't parted.
-    #[tactic(auto, using(crate::proofs::Partings::index_at_first))]
+    /// The tree of a root that isn't split.
+    #[tactic(auto, using(crate::proofs::Origins::index_at_first))]
     pub fn of(alloc: Global, root_bound: i64) -> SearchTree
         ensures { result ≡ record { root_bound = root_bound; branches = [] } }
     {
@@ -42,10 +42,11 @@ impl SearchTree {
         }
     }
 
-    /// Adds a parting whose children are new.
+    /// Adds a branching whose children are new.
     pub fn push(&mut self, branching: Branching) -> Result<(), OutOfMemory>
         requires { IsNewBranch self.old.branches branching }
-        ensures ok { OnOk result (self.new ≡ record { root_bound = self.old.root_bound; branches = self.old.branches ++ branching ∷ [] }) }
+        ensures ok { OnOk result (self.new ≡
+            record self.old { branches = self.old.branches ++ branching ∷ [] }) }
         ensures err { OnErr result (self.new ≡ self.old) }
     {
         let first = branching.first();
@@ -61,7 +62,7 @@ impl SearchTree {
     }
 
     /// A node as it stands among open ones, or None where there is no node of the name.
-    #[tactic(auto, using(crate::proofs::Paths::node_read, crate::proofs::Partings::node_unmade))]
+    #[tactic(auto, using(crate::proofs::Paths::node_read, crate::proofs::Origins::node_unmade))]
     pub fn node_of(&self, name: u64) -> Option<OpenNode>
         ensures { result ≡ node_of self.now name }
     {
@@ -79,8 +80,8 @@ impl SearchTree {
         })
     }
 
-    /// The changes, the last first, that make the box of a node from the root box: those on the way from the node to the
-    /// root.
+    /// The changes, the last first, that make the box of a node from the root box: those on the way
+    /// from the node to the root.
     pub fn path_of(&self, alloc: Global, node: u64) -> Result<Vec<BoundChange>, OutOfMemory>
         ensures { IfOk result (λ path. IsPath self.now.branches node path.items) }
     {
@@ -95,10 +96,11 @@ impl SearchTree {
         Ok(path)
     }
 
-    /// How a node came to be by the first `left` partings, or None where they don't make it.
-    #[tactic(auto, using(crate::proofs::Paths::origin_box, crate::proofs::Paths::root_where_unmade, crate::proofs::Paths::root_where_later, crate::proofs::Paths::root_without_change))]
+    /// How a node came to be by the first `left` branchings, or None where they don't make it.
+    #[tactic(auto, using(crate::proofs::Paths::root_boxes))]
     fn origin_before(&self, name: u64, left: usize) -> Option<Origin>
-        ensures { MatchOption result (IsRootBefore self.now.branches name left) (IsOriginBefore self.now.branches name left) }
+        ensures { MatchOption result (IsRootBefore self.now.branches name left)
+            (IsOriginBefore self.now.branches name left) }
     {
         let place = self.place_of(name)?;
         if left <= place {
@@ -113,10 +115,11 @@ impl SearchTree {
         })
     }
 
-    /// The place of the parting that makes a node.
-    #[tactic(auto, using(crate::proofs::Partings::made_first, crate::proofs::Partings::made_second, crate::proofs::Partings::unmade_two, crate::proofs::Partings::unmade_zero))]
+    /// The place of the branching that makes a node.
+    #[tactic(auto, using(crate::proofs::Origins::origins))]
     fn place_of(&self, name: u64) -> Option<usize>
-        ensures { MatchOption result (IsUnmade self.now.branches name) (IsMadeAt self.now.branches name) }
+        ensures { MatchOption result (IsUnmade self.now.branches name)
+            (IsMadeAt self.now.branches name) }
     {
         if let Some(place) = self.place_of_first(name) {
             return Some(place);
@@ -125,9 +128,10 @@ impl SearchTree {
         self.place_of_first(first)
     }
 
-    /// The place of the parting whose first child has this name.
+    /// The place of the branching whose first child has this name.
     fn place_of_first(&self, first: u64) -> Option<usize>
-        ensures place { MatchOption result (HasNoFirst self.now.branches first) (IsFirstAt self.now.branches first) }
+        ensures place { MatchOption result (HasNoFirst self.now.branches first)
+            (IsFirstAt self.now.branches first) }
         ensures apart { AreApart self.now.branches }
     {
         self.places.get(&first).copied()

@@ -11,11 +11,13 @@ use Rattle.node_pool.specs.declared.node.OpenNode.{OpenNode}
 use Rattle.node_pool.specs.declared.settings.SearchSettings.{SearchSettings}
 
 -- the view of a history with one entry more
-pub view_next : (v : View) (es : List KeyedEntry) (e : KeyedEntry) → view_after v (es ++ e ∷ []) ≡ after_entry (view_after v es) e.entry
+pub view_next : (v : View) (es : List KeyedEntry) (e : KeyedEntry)
+    → view_after v (es ++ e ∷ []) ≡ after_entry (view_after v es) e.entry
 view_next v [] e = refl
 view_next v (x ∷ xs) e = view_next (after_entry v x.entry) xs e
 
-children_settings : (v : View) (low high : OpenNode) (keep : ℕ) → (with_children v low high keep).settings ≡ v.settings
+children_settings : (v : View) (low high : OpenNode) (keep : ℕ)
+    → (with_children v low high keep).settings ≡ v.settings
 children_settings v low high zero = refl
 children_settings v low high (suc zero) = refl
 children_settings v low high (suc (suc more)) = refl
@@ -28,7 +30,9 @@ entry_settings v Done = refl
 entry_settings v (Found value point) = refl
 entry_settings v (Cut derivation) = refl
 entry_settings v (Split node col at first keep bound) =
-    children_settings (with_branch (without_held v node) (record { node = node; col = col; at = at; first = first; bound = bound })) (open_node first bound) (open_node (first + 1) bound) keep
+    children_settings (with_branch (without_held v node)
+    (record { node = node; col = col; at = at; first = first; bound = bound }))
+    (open_node first bound) (open_node (first + 1) bound) keep
 entry_settings v (Closed node) = refl
 entry_settings v Halt = refl
 
@@ -38,9 +42,11 @@ settings_stay v [] = refl
 settings_stay v (e ∷ es) = settings_stay (after_entry v e.entry) es ∙ entry_settings v e.entry
 
 -- an entry that may follow may join the view of a history
-pub can_join : (m : ModelParts) (settings : SearchSettings) (history : List KeyedEntry) (v : View) (e : Entry) → v ≡ view_of m settings history → MayFollow m v e → CanJoin m v e
+pub can_join : (m : ModelParts) (settings : SearchSettings) (history : List KeyedEntry) (v : View)
+    (e : Entry) → v ≡ view_of m settings history → MayFollow m v e → CanJoin m v e
 can_join m settings history v e is follows =
-    let same : v.settings ≡ settings = ap (λ (w : View). w.settings) is ∙ settings_stay (fresh_view m settings) history in
+    let same : v.settings ≡ settings = ap (λ (w : View). w.settings) is
+    ∙ settings_stay (fresh_view m settings) history in
     record {
       history = history;
       is = subst (λ (s : SearchSettings). v ≡ view_of m s history) (sym same) is;
@@ -48,18 +54,25 @@ can_join m settings history v e is follows =
     }
 
 -- the same where the view is that of a history with an entry more, for a view that is worked out
-pub joins_at : (m : ModelParts) (settings : SearchSettings) (history : List KeyedEntry) (v : View) (e : Entry) → v ≡ view_of m settings history → MayFollow m (view_of m settings history) e → CanJoin m v e
-joins_at m settings history v e is follows = can_join m settings history v e is (subst (λ (w : View). MayFollow m w e) (sym is) follows)
+pub joins_at : (m : ModelParts) (settings : SearchSettings) (history : List KeyedEntry) (v : View)
+    (e : Entry) → v ≡ view_of m settings history → MayFollow m (view_of m settings history) e
+    → CanJoin m v e
+joins_at m settings history v e is follows =
+    can_join m settings history v e is (subst (λ (w : View). MayFollow m w e) (sym is) follows)
 
 next_count : (a b c : ℕ) → a ≡ b + 1 + c → a ≡ b + suc c
 next_count a b c h = omega (arith, h)
 
-entries_after : (v : View) (es : List KeyedEntry) → (view_after v es).entries ≡ v.entries + length es
+entries_after : (v : View) (es : List KeyedEntry)
+    → (view_after v es).entries ≡ v.entries + length es
 entries_after v [] = omega arith
-entries_after v (e ∷ es) = next_count (view_after (after_entry v e.entry) es).entries v.entries (length es) (entries_after (after_entry v e.entry) es)
+entries_after v (e ∷ es) =
+    next_count (view_after (after_entry v e.entry) es).entries v.entries (length es)
+    (entries_after (after_entry v e.entry) es)
 
 from_none : (a b : ℕ) → a ≡ 0 + b → a ≡ b
 from_none a b h = omega (arith, h)
 
 pub entries_are_counted : EntriesAreCounted
-entries_are_counted m settings history = from_none _ (length history) (entries_after (fresh_view m settings) history)
+entries_are_counted m settings history =
+    from_none _ (length history) (entries_after (fresh_view m settings) history)
