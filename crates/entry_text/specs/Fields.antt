@@ -23,7 +23,7 @@ abbrev pub number_fields : List ℕ → List ℕ
 number_fields [] = []
 number_fields (n ∷ ns) = number_field n ++ number_fields ns
 
--- a blank and the name of a row: `r` and the number of a row of the model, or `k` and the number of a cut
+-- a blank and the name of a row: `r` and the number of a row of the model, or `k` and that of a cut
 abbrev pub row_field : RowRef → List ℕ
 row_field (Model row) = codes " r" ++ decimal row
 row_field (Cut cut) = codes " k" ++ decimal cut

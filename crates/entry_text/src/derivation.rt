@@ -5,7 +5,7 @@ use crate::field::{append_number, append_numbers, append_pairs, append_row};
 use ip_core::{Derivation, OutOfMemory, Text};
 
 /// Appends how a cut follows from the rows before it: `gomory DIVISOR K` with K rows and their weights, or `cover ROW K`
-/// with K columns. Err comes only of want of memory, and then a front of it may stand.
+/// with K columns. Err comes only of want of memory, and the text is used no more then.
 pub fn append_derivation(text: &mut Text, derivation: &Derivation) -> Result<(), OutOfMemory>
     ensures { OnOk result (text.new ≡ text.old ++ derivation_text derivation.now) }
 {

@@ -8,7 +8,7 @@ use itoa::Buffer;
 use work_stamp::{Entry, KeyedEntry};
 
 /// Appends a line for each entry, in order: its stamp, its slot, its word and its numbers. Err comes only of want of memory,
-/// and then a front of the lines may stand.
+/// and the text is used no more then.
 pub fn append_entries(text: &mut Text, entries: &[KeyedEntry]) -> Result<(), OutOfMemory>
     ensures { OnOk result (text.new ≡ text.old ++ entry_lines entries.now) }
 {

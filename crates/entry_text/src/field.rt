@@ -4,7 +4,7 @@ ghost use Rattle.entry_text.specs.Fields.{number_field, number_fields, pair_fiel
 use ip_core::{OutOfMemory, Pair, RowRef, Text};
 use itoa::Buffer;
 
-/// Appends a blank and a number. Err comes only of want of memory, and then a front of it may stand.
+/// Appends a blank and a number. Err comes only of want of memory, and the text is used no more then.
 pub fn append_number(text: &mut Text, number: u64) -> Result<(), OutOfMemory>
     ensures { OnOk result (text.new ≡ text.old ++ number_field number) }
 {
@@ -12,7 +12,7 @@ pub fn append_number(text: &mut Text, number: u64) -> Result<(), OutOfMemory>
     text.extend(Buffer::new().format(number).as_bytes())
 }
 
-/// Appends a blank and a number with its sign. Err comes only of want of memory, and then a front of it may stand.
+/// Appends a blank and a number with its sign. Err comes only of want of memory, and the text is used no more then.
 pub fn append_signed(text: &mut Text, number: i64) -> Result<(), OutOfMemory>
     ensures { OnOk result (text.new ≡ text.old ++ signed_field number) }
 {
@@ -21,7 +21,7 @@ pub fn append_signed(text: &mut Text, number: i64) -> Result<(), OutOfMemory>
 }
 
 /// Appends a blank and the name of a row: `r` and the number of a row of the model, or `k` and the number of a cut. Err
-/// comes only of want of memory, and then a front of it may stand.
+/// comes only of want of memory, and the text is used no more then.
 pub fn append_row(text: &mut Text, row: RowRef) -> Result<(), OutOfMemory>
     ensures { OnOk result (text.new ≡ text.old ++ row_field row) }
 {

@@ -112,9 +112,9 @@ pub fn ends_have_causes<T: Tasker>(tasker: &T, limits: &Limits)
     ensures { EndsHaveCauses (T.rules tasker.now) limits.now }
 {}
 
-/// A law of the machine, with nothing to run: each record of a slot is one of a chunk that the slot ran. Then history and slots
-/// agreed, and the slot stood at a local that had begun a task, with nothing pending. All entries of that chunk are in the
-/// history, so what a slot drops leaves no record.
+/// A law of the machine, with nothing to run: each record of a slot is one of a chunk that the slot ran. Then a front of the
+/// history and the slots agreed, and the slot stood at a local that had begun a task, with nothing pending. All entries of
+/// that chunk are in the history, so what a slot drops leaves no record.
 pub fn records_have_chunks<T: Tasker>(tasker: &T, limits: &Limits)
     requires { AreLimits limits.now }
     ensures { RecordsHaveChunks (T.rules tasker.now) (T.fits_local tasker.now)
