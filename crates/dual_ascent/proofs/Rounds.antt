@@ -50,18 +50,18 @@ rounds_spent worth i c last spent rest =
 pub rounds_stopped : (worth : List ℕ → ℤ) (i : ℕ) (c last : Climb) → c.step_size ≡ 0 → after_rounds worth (64 - i) c ≡ last → c ≡ last
 rounds_stopped worth i c last none rest = sym (after_rounds_stop worth (64 - i) c none) ∙ rest
 
--- a climb with one more round counted
-abbrev pub counted : Climb → Climb
-counted c = record c { rounds = c.rounds + 1 }
+-- a climb with one more round
+abbrev pub with_round : Climb → Climb
+with_round c = record c { rounds = c.rounds + 1 }
 
 -- what a round leaves where all multipliers stayed
-pub round_same : (worth : List ℕ → ℤ) (c : Climb) (next : List ℕ) (same : Bool) → next ≡ after_rows worth c.step_size c.mults (length c.mults) → same ≡ is_same c.mults next → same ≡ true → counted (record { mults = next; step_size = c.step_size / 2; rounds = c.rounds }) ≡ after_round worth c
+pub round_same : (worth : List ℕ → ℤ) (c : Climb) (next : List ℕ) (same : Bool) → next ≡ after_rows worth c.step_size c.mults (length c.mults) → same ≡ is_same c.mults next → same ≡ true → with_round (record { mults = next; step_size = c.step_size / 2; rounds = c.rounds }) ≡ after_round worth c
 unfolding after_round
 round_same worth c next same rows is_same here =
     rw (← rows, ← is_same, here) refl
 
 -- and where one changed
-pub round_changed : (worth : List ℕ → ℤ) (c : Climb) (next : List ℕ) (same : Bool) → next ≡ after_rows worth c.step_size c.mults (length c.mults) → same ≡ is_same c.mults next → same ≡ false → counted (record { mults = next; step_size = c.step_size; rounds = c.rounds }) ≡ after_round worth c
+pub round_changed : (worth : List ℕ → ℤ) (c : Climb) (next : List ℕ) (same : Bool) → next ≡ after_rows worth c.step_size c.mults (length c.mults) → same ≡ is_same c.mults next → same ≡ false → with_round (record { mults = next; step_size = c.step_size; rounds = c.rounds }) ≡ after_round worth c
 unfolding after_round
 round_changed worth c next same rows is_same here =
     rw (← rows, ← is_same, here) refl
@@ -103,6 +103,6 @@ round_allowed rounds total work allowed first more whole so_far =
 
 -- and is told
 pub round_told : (before after rounds next work first : ℕ) → after + work ≡ before → next ≡ rounds + 1 → before + rounds * work ≡ first → after + next * work ≡ first
-round_told before after rounds next work first told counted so_far =
+round_told before after rounds next work first told one_more so_far =
     let here : next ≡ suc rounds = omega arith in
     rw here (omega (arith, suc-mul rounds work))

@@ -79,12 +79,12 @@ const FIVE: &[u8] =
 const SIX_MAX: &[u8] =
     b"NAME sixmax\nOBJSENSE\n MAX\nROWS\n N c\n E a0\n G a1\nCOLUMNS\n p c 7\n p a0 6\n p a1 2\n q c 5\n q a0 4\n q a1 5\n r c -2\n r a0 7\n r a1 5\n s c 3\n s a0 -3\n t c 3\n t a0 1\n t a1 3\n u c 8\n u a0 2\nRHS\n R a0 12\n R a1 14\nBOUNDS\n LI B p 0\n UI B p 2\n LI B q 0\n UI B q 2\n LI B r 0\n UI B r 2\n LI B s 0\n UI B s 2\n LI B t 0\n UI B t 2\n LI B u 0\n UI B u 2\nENDATA\n";
 
-/// Words over a file `m`, the exit status, and what is printed.
+/// Words over a file `m`, the exit status, and what is output.
 struct Case {
     words: &'static str,
     model: &'static [u8],
     status: u8,
-    printed: &'static [u8],
+    output: &'static [u8],
 }
 
 fn text(alloc: Global, bytes: &[u8]) -> Result<Text, OutOfMemory> {
@@ -122,18 +122,18 @@ fn prints(
     line: &str,
     model: &[u8],
     status: u8,
-    printed: &[u8],
+    output: &[u8],
 ) -> Result<bool, OutOfMemory> {
     let mut out = SureSink::new(alloc);
     let code = run_over(alloc, line, model, &mut out)?;
-    Ok(code == status && out.bytes() == printed)
+    Ok(code == status && out.bytes() == output)
 }
 
 /// The number of the first case that comes out otherwise.
 fn first_failure(alloc: Global, cases: &[Case]) -> Result<Option<usize>, OutOfMemory> {
     for i in 0..cases.len() {
         let case = &cases[i];
-        if !prints(alloc, case.words, case.model, case.status, case.printed)? {
+        if !prints(alloc, case.words, case.model, case.status, case.output)? {
             return Ok(Some(i));
         }
     }
@@ -145,151 +145,151 @@ const CASES: [Case; 25] = [
         words: "solve m",
         model: ONE,
         status: 0,
-        printed: b"status optimal\nobjective 0\nx = 0\n",
+        output: b"status optimal\nobjective 0\nx = 0\n",
     },
     Case {
         words: "solve m",
         model: THREE,
         status: 0,
-        printed: b"status optimal\nobjective -13\nx = 2\ny = 0\nz = 1\n",
+        output: b"status optimal\nobjective -13\nx = 2\ny = 0\nz = 1\n",
     },
     Case {
         words: "solve m",
         model: ODD,
         status: 0,
-        printed: b"status infeasible\n",
+        output: b"status infeasible\n",
     },
     Case {
         words: "solve m",
         model: PAIR,
         status: 0,
-        printed: b"status optimal\nobjective 0\nx = 1\ny = 1\n",
+        output: b"status optimal\nobjective 0\nx = 1\ny = 1\n",
     },
     Case {
         words: "solve m",
         model: ONE_SHIFTED,
         status: 0,
-        printed: b"status optimal\nobjective -10\nx = 0\n",
+        output: b"status optimal\nobjective -10\nx = 0\n",
     },
     Case {
         words: "solve m",
         model: RANGE,
         status: 0,
-        printed: b"status optimal\nobjective 3\nx = 3\n",
+        output: b"status optimal\nobjective 3\nx = 3\n",
     },
     Case {
         words: "solve m",
         model: RANGE_MAX,
         status: 0,
-        printed: b"status optimal\nobjective 5\nx = 5\n",
+        output: b"status optimal\nobjective 5\nx = 5\n",
     },
     Case {
         words: "solve m",
         model: PACKING,
         status: 0,
-        printed: b"status optimal\nobjective -5.25\nBOX = 1\nCAN = 2\nLID = 0\n",
+        output: b"status optimal\nobjective -5.25\nBOX = 1\nCAN = 2\nLID = 0\n",
     },
     Case {
         words: "solve m",
         model: UNBOUNDED,
         status: 5,
-        printed: b"refused model kind 3 index 0\n",
+        output: b"refused model kind 3 index 0\n",
     },
     Case {
         words: "solve --default-upper=9 m",
         model: UNBOUNDED,
         status: 0,
-        printed: b"status optimal\nobjective -9\nx = 9\n",
+        output: b"status optimal\nobjective -9\nx = 9\n",
     },
     Case {
         words: "solve m --tasks=1 --work=15",
         model: COVER,
         status: 3,
-        printed: b"status worklimit\nobjective 3\nx = 3\n",
+        output: b"status worklimit\nobjective 3\nx = 3\n",
     },
     Case {
         words: "solve m --tasks=1 --work=16",
         model: COVER,
         status: 0,
-        printed: b"status optimal\nobjective 2\nx = 2\n",
+        output: b"status optimal\nobjective 2\nx = 2\n",
     },
     Case {
         words: "solve m --tasks=1 --work=2",
         model: ONE,
         status: 3,
-        printed: b"status worklimit\nobjective none\n",
+        output: b"status worklimit\nobjective none\n",
     },
     Case {
         words: "solve m --tasks=1 --work=3",
         model: ONE,
         status: 0,
-        printed: b"status optimal\nobjective 0\nx = 0\n",
+        output: b"status optimal\nobjective 0\nx = 0\n",
     },
     Case {
         words: "solve m",
         model: ONE_UNENDED,
         status: 5,
-        printed: b"refused mps line 9 kind 14\n",
+        output: b"refused mps line 9 kind 14\n",
     },
     Case {
         words: "show m",
         model: ONE_REPEATED,
         status: 5,
-        printed: b"refused mps line 6 kind 10\n",
+        output: b"refused mps line 6 kind 10\n",
     },
     Case {
         words: "show m",
         model: ONE,
         status: 0,
-        printed: ONE_SHOWN,
+        output: ONE_SHOWN,
     },
     Case {
         words: "show m",
         model: UNBOUNDED,
         status: 0,
-        printed: UNBOUNDED_SHOWN,
+        output: UNBOUNDED_SHOWN,
     },
     Case {
         words: "solve",
         model: ONE,
         status: 2,
-        printed: b"refused words\n",
+        output: b"refused words\n",
     },
     Case {
         words: "show m --work=1",
         model: ONE,
         status: 2,
-        printed: b"refused words\n",
+        output: b"refused words\n",
     },
     Case {
         words: "gen m",
         model: ONE,
         status: 2,
-        printed: b"refused words\n",
+        output: b"refused words\n",
     },
     Case {
         words: "alone m --default-upper=7",
         model: THREE,
         status: 0,
-        printed: b"status optimal\nobjective -13\nx = 2\ny = 0\nz = 1\n",
+        output: b"status optimal\nobjective -13\nx = 2\ny = 0\nz = 1\n",
     },
     Case {
         words: "solve m --tasks=65",
         model: ONE,
         status: 2,
-        printed: b"refused words\n",
+        output: b"refused words\n",
     },
     Case {
         words: "solve m --tasks=64 --store=65537",
         model: ONE,
         status: 2,
-        printed: b"refused words\n",
+        output: b"refused words\n",
     },
     Case {
         words: "check m",
         model: ONE,
         status: 2,
-        printed: b"refused words\n",
+        output: b"refused words\n",
     },
 ];
 
@@ -348,9 +348,9 @@ fn one_model_in_many_dressings(rt: HostRuntime) -> Result<(), Fail> {
 }
 
 /// Whether a file of so many bytes is answered so.
-fn is_length_answer(alloc: Global, len: usize, printed: &[u8]) -> Result<bool, OutOfMemory> {
+fn is_length_answer(alloc: Global, len: usize, output: &[u8]) -> Result<bool, OutOfMemory> {
     let model = vec![in alloc; b'x'; len]?;
-    prints(alloc, "solve m", model.as_slice(), 5, printed)
+    prints(alloc, "solve m", model.as_slice(), 5, output)
 }
 
 #[test]
@@ -386,14 +386,14 @@ fn a_sample_model(rt: HostRuntime) -> Result<(), Fail> {
     Ok(())
 }
 
-/// Whether a run ends so over a shelf and a sink of which these calls fail: its status, what is printed, and the counts of
+/// Whether a run ends so over a shelf and a sink of which these calls fail: its status, what is output, and the counts of
 /// faults.
 fn ends(
     alloc: Global,
     reads: &[u64],
     puts: &[u64],
     status: u8,
-    printed: &[u8],
+    output: &[u8],
     faults: (u64, u64),
 ) -> Result<bool, OutOfMemory> {
     let mut shelf = MemoryShelf::new(alloc, numbers(alloc, reads)?, 0);
@@ -401,7 +401,7 @@ fn ends(
     let mut out = MemorySink::new(alloc, numbers(alloc, puts)?, 10);
     let words = words(alloc, "solve m")?;
     let code = run(alloc, words.as_slice(), &mut shelf, &mut out);
-    Ok(code == status && out.bytes() == printed && (shelf.faults(), out.faults()) == faults)
+    Ok(code == status && out.bytes() == output && (shelf.faults(), out.faults()) == faults)
 }
 
 #[test]
@@ -463,11 +463,11 @@ fn is_stored_answer(
     alloc: Global,
     count: u32,
     status: u8,
-    printed: &[u8],
+    output: &[u8],
 ) -> Result<bool, OutOfMemory> {
     let file = free_columns(alloc, count)?;
     let line = "solve m --tasks=1 --store=64";
-    prints(alloc, line, file.as_bytes(), status, printed)
+    prints(alloc, line, file.as_bytes(), status, output)
 }
 
 #[test]

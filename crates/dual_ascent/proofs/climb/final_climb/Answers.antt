@@ -34,12 +34,12 @@ tick-requires g c =
 pub loop-round-preserved : goal.loop-round-preserved
 loop-round-preserved g c =
     let worth = numerator c.args.model.now c.args.cuts.now c.args.bounds.now in
-    let counted : c.climb_round.new.climb.rounds ≡ c.loop-round.climb.rounds + 1 = ap (λ k. k.rounds) c.climb_round.ensures.value ∙ (counted_round worth (climb_of c.loop-round.climb)) in
+    let one_more : c.climb_round.new.climb.rounds ≡ c.loop-round.climb.rounds + 1 = ap (λ k. k.rounds) c.climb_round.ensures.value ∙ (counted_round worth (climb_of c.loop-round.climb)) in
     record {
       rest = round_taken worth c.loop-round._round (climb_of c.loop-round.climb) (climb_of c.climb_round.new.climb) _ c.loop-round-test.true c.if-climb-eq0.false c.climb_round.ensures.value c.loop-round.invariant.rest;
       kept = c.climb_round.ensures.kept;
-      few = omega (arith, c.loop-round.invariant.few, counted);
-      told = round_told (g.P.Pulse.allowance c.loop-round.pulse) (g.P.Pulse.allowance c.tick.new.self) c.loop-round.climb.rounds c.climb_round.new.climb.rounds c.round_work-work.result (g.P.Pulse.allowance c.args.pulse.now) c.tick.ensures.allowance counted c.loop-round.invariant.told;
+      few = omega (arith, c.loop-round.invariant.few, one_more);
+      told = round_told (g.P.Pulse.allowance c.loop-round.pulse) (g.P.Pulse.allowance c.tick.new.self) c.loop-round.climb.rounds c.climb_round.new.climb.rounds c.round_work-work.result (g.P.Pulse.allowance c.args.pulse.now) c.tick.ensures.allowance one_more c.loop-round.invariant.told;
       ready = c.tick.ensures.ready;
       unchanged = c.tick.ensures.rest ∙ c.loop-round.invariant.unchanged;
     }
