@@ -7,7 +7,7 @@ use Rattle.std.proofs.lemmas.List.Sums.{fold_push}
 use Rattle.std.proofs.lemmas.Option.{get_or_from_slice_get}
 use Rattle.xsearch_words.specs.Faults.{HasFailed, failed_write, next_count}
 use Rattle.xsearch_words.specs.Files.{Files, MaySetFront, SetsFile, with_file}
-use Rattle.xsearch_words.specs.Outputs.{AreWritten, AreWrittenInPart, IsFailedWrite, count_after, with_files, with_told_files}
+use Rattle.xsearch_words.specs.Outputs.{AreWritten, AreWrittenInPart, IsFailedWrite, count_after, with_told_files}
 use Rattle.xsearch_words.specs.Shelf.{HasNoFault, ShelfState}
 use Rattle.xsearch_words.specs.declared.output.OutputFile.{OutputFile}
 

@@ -91,7 +91,7 @@ fn read_file<R: Files>(
     read_opened(fs::open(rt, path), alloc, most)
 }
 
-/// Writes the file at a path, which is made where it is missing. A name that isn't text is a failure.
+/// Writes the file at a path, which may be a new one. A name that isn't text is a failure.
 fn write_file<R: Files>(rt: &R, name: &[u8], bytes: &[u8]) -> Result<(), WriteError>
     ensures { ¬ IsErrOf result WriteError.Memory }
 {
