@@ -1,0 +1,4 @@
+pub mod Steps
+pub mod Multipliers
+pub mod Leaves
+pub mod Laws
