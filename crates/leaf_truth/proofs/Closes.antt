@@ -23,9 +23,9 @@ use Rattle.row_propagate.proofs.Replaying.{replay_keeps, replay_within}
 use Rattle.safe_bound.specs.Bounds.{lagrangian_bound}
 use Rattle.safe_bound.proofs.Safety.{bound_is_safe}
 use Rattle.leaf_truth.specs.declared.reason.LeafReason.TheVariants.{BadConflict, BadBound}
-use Rattle.leaf_truth.specs.Steps.{has_row, is_solid}
+use Rattle.leaf_truth.specs.Steps.{has_row, has_no_empty}
 use Rattle.leaf_truth.specs.Multipliers.{multipliers, is_pair, are_rising}
-use Rattle.leaf_truth.specs.Leaves.{is_conflict, is_conflict_at, is_empty_column, is_bound, closing_reason}
+use Rattle.leaf_truth.specs.Leaves.{is_conflict, is_conflict_at, is_empty_column, is_bound_by, closing_reason}
 use Rattle.leaf_truth.specs.Laws.{LeafCloses}
 use Rattle.leaf_truth.proofs.Tests.{three_parts, four_parts, int_lt-true, int_le-true, unless-none, leaf-holds}
 
@@ -36,7 +36,7 @@ between a b c first second = omega (arith, ints)
 conflict_closes : (m : ModelParts) (cuts : List Row) (s : Sides) (name : RowRef) (y : List ℤ) → IsModel m → AreRows (length m.cols) m.root cuts → IsFeasible m y → AreMet y cuts → IsInside s y → is_conflict_at m.rows cuts s name ≡ true → ⊥
 conflict_closes m cuts s name y valid of_cuts feasible met inside test =
     let row = row_named m.rows cuts name in
-    let parts = three_parts (has_row m.rows cuts name) (is_solid s) (is_conflict s row) test in
+    let parts = three_parts (has_row m.rows cuts name) (has_no_empty s) (is_conflict s row) test in
     conflict_meets_none (length m.cols) s row y (named_terms (length m.cols) m.root m.rows cuts name valid.rows of_cuts) feasible.one_each inside
     (record { below = int_lt-true (greatest_activity s row.terms) row.least parts.2 }) (named_met m.rows cuts name y feasible.rows_met met)
 
@@ -48,10 +48,10 @@ empty_closes s col y long inside test =
     omega (arith, ints, int_lt-true (int_at s.highs col) (int_at s.lows col) parts.1, inside.above col known, inside.below col known)
 
 -- no feasible point of the box that meets the cuts has a value below v, where a bound is at least v
-bound_closes : (m : ModelParts) (cuts : List Row) (v : ℤ) (s : Sides) (pairs : List Pair) (y : List ℤ) → IsModel m → AreRows (length m.cols) m.root cuts → IsFeasible m y → AreMet y cuts → IsInside s y → is_bound m cuts v s pairs ≡ true → v ≤ℤ value_at m y
+bound_closes : (m : ModelParts) (cuts : List Row) (v : ℤ) (s : Sides) (pairs : List Pair) (y : List ℤ) → IsModel m → AreRows (length m.cols) m.root cuts → IsFeasible m y → AreMet y cuts → IsInside s y → is_bound_by m cuts v s pairs ≡ true → v ≤ℤ value_at m y
 bound_closes m cuts v s pairs y valid of_cuts feasible met inside test =
     let ys = multipliers m.rows cuts pairs in
-    let parts = four_parts (list_all (is_pair m.rows cuts) pairs) (are_rising pairs) (is_solid s) (int_le v (lagrangian_bound m cuts s ys)) test in
+    let parts = four_parts (list_all (is_pair m.rows cuts) pairs) (are_rising pairs) (has_no_empty s) (int_le v (lagrangian_bound m cuts s ys)) test in
     between v (lagrangian_bound m cuts s ys) (value_at m y) (int_le-true v (lagrangian_bound m cuts s ys) parts.3)
     (bound_is_safe m cuts s ys y valid of_cuts feasible.one_each inside (record { each = All-append (IsMet y) m.rows cuts feasible.rows_met.each met.each }))
 
@@ -61,7 +61,7 @@ closing_closes m cuts v s (Conflict name) y valid of_cuts feasible met long insi
 closing_closes m cuts v s (Empty col) y valid of_cuts feasible met long inside none =
     absurd (empty_closes s col y long inside (unless-none BadConflict (is_empty_column s col) none))
 closing_closes m cuts v s (Bound pairs) y valid of_cuts feasible met long inside none =
-    bound_closes m cuts v s pairs y valid of_cuts feasible met inside (unless-none BadBound (is_bound m cuts v s pairs) none)
+    bound_closes m cuts v s pairs y valid of_cuts feasible met inside (unless-none BadBound (is_bound_by m cuts v s pairs) none)
 
 pub leaf_closes : LeafCloses
 leaf_closes m cuts v s leaf valid of_cuts columns holds = record {

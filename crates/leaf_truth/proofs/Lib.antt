@@ -5,3 +5,8 @@ pub mod Below
 pub mod Pairs
 pub mod Given
 pub mod OverMore
+pub mod Solid
+pub mod Coefficients
+pub mod Writing
+pub mod Stepping
+pub mod Exactly

@@ -23,9 +23,9 @@ use Rattle.safe_bound.specs.declared.limits.TheConstants.{MAX_MULTIPLIER}
 use Rattle.safe_bound.specs.Weights.{weighted_sum}
 use Rattle.safe_bound.specs.Bounds.{all_rows, reduced_cost, share, numerator, lagrangian_bound}
 use Rattle.leaf_truth.specs.declared.reason.LeafReason.TheVariants.{BadConflict, BadBound}
-use Rattle.leaf_truth.specs.Steps.{has_row, is_solid, is_row_step, is_step, are_steps}
+use Rattle.leaf_truth.specs.Steps.{has_row, has_no_empty, is_row_step, is_lawful_step, are_lawful_steps}
 use Rattle.leaf_truth.specs.Multipliers.{name_at, is_same_row, weight_of, weights_from, multipliers, is_pair, are_rising}
-use Rattle.leaf_truth.specs.Leaves.{is_conflict, is_conflict_at, is_bound, closing_reason}
+use Rattle.leaf_truth.specs.Leaves.{is_conflict, is_conflict_at, is_bound_by, closing_reason}
 use Rattle.leaf_truth.specs.Laws.{LeafHoldsOverMore}
 use Rattle.leaf_truth.proofs.Pairs.{name_of_cut}
 use Rattle.leaf_truth.proofs.Tests.{all_three, three_parts, all_four, four_parts, unless-from, unless-none, leaf-from, leaf-holds}
@@ -39,32 +39,32 @@ named_more : (rows cuts more : List Row) (name : RowRef) → has_row rows cuts n
 named_more rows cuts more (Model i) known = refl
 named_more rows cuts more (Cut i) known = get_or_append_left cuts more no_row i (ltb-true i (length cuts) known)
 
-step_row : (rows cuts : List Row) (s : Sides) (step : Tighten) → is_step rows cuts s step ≡ true → (has_row rows cuts step.row ≡ true) × (is_row_step (row_named rows cuts step.row) s step ≡ true)
+step_row : (rows cuts : List Row) (s : Sides) (step : Tighten) → is_lawful_step rows cuts s step ≡ true → (has_row rows cuts step.row ≡ true) × (is_row_step (row_named rows cuts step.row) s step ≡ true)
 step_row rows cuts s step test = and_parts (has_row rows cuts step.row) (is_row_step (row_named rows cuts step.row) s step) test
 
-step_more : (rows cuts more : List Row) (s : Sides) (step : Tighten) → is_step rows cuts s step ≡ true → is_step rows (cuts ++ more) s step ≡ true
+step_more : (rows cuts more : List Row) (s : Sides) (step : Tighten) → is_lawful_step rows cuts s step ≡ true → is_lawful_step rows (cuts ++ more) s step ≡ true
 step_more rows cuts more s step test =
     let parts = step_row rows cuts s step test in
     and_from (has_row rows (cuts ++ more) step.row) (is_row_step (row_named rows (cuts ++ more) step.row) s step) (has_row_more rows cuts more step.row parts.0)
     (ap (λ (row : Row). is_row_step row s step) (named_more rows cuts more step.row parts.0) ∙ parts.1)
 
 -- steps that could be made can be made, and lead to the same box
-steps_more : (rows cuts more : List Row) (steps : List Tighten) (s : Sides) → are_steps rows cuts s steps ≡ true → (are_steps rows (cuts ++ more) s steps ≡ true) × (replay (row_named rows (cuts ++ more)) s steps ≡ replay (row_named rows cuts) s steps)
+steps_more : (rows cuts more : List Row) (steps : List Tighten) (s : Sides) → are_lawful_steps rows cuts s steps ≡ true → (are_lawful_steps rows (cuts ++ more) s steps ≡ true) × (replay (row_named rows (cuts ++ more)) s steps ≡ replay (row_named rows cuts) s steps)
 steps_more rows cuts more [] s test = (refl, refl)
 steps_more rows cuts more (step ∷ steps) s test =
     let next = tight_box (row_named rows cuts step.row) s step.col in
-    let parts = and_parts (is_step rows cuts s step) (are_steps rows cuts next steps) test in
+    let parts = and_parts (is_lawful_step rows cuts s step) (are_lawful_steps rows cuts next steps) test in
     let same = named_more rows cuts more step.row (step_row rows cuts s step parts.0).0 in
     let later = steps_more rows cuts more steps next parts.1 in (
-      and_from (is_step rows (cuts ++ more) s step) (are_steps rows (cuts ++ more) (tight_box (row_named rows (cuts ++ more) step.row) s step.col) steps) (step_more rows cuts more s step parts.0)
-          (ap (λ (row : Row). are_steps rows (cuts ++ more) (tight_box row s step.col) steps) same ∙ later.0),
+      and_from (is_lawful_step rows (cuts ++ more) s step) (are_lawful_steps rows (cuts ++ more) (tight_box (row_named rows (cuts ++ more) step.row) s step.col) steps) (step_more rows cuts more s step parts.0)
+          (ap (λ (row : Row). are_lawful_steps rows (cuts ++ more) (tight_box row s step.col) steps) same ∙ later.0),
       ap (λ (row : Row). replay (row_named rows (cuts ++ more)) (tight_box row s step.col) steps) same ∙ later.1,
     )
 
 conflict_more : (rows cuts more : List Row) (s : Sides) (name : RowRef) → is_conflict_at rows cuts s name ≡ true → is_conflict_at rows (cuts ++ more) s name ≡ true
 conflict_more rows cuts more s name test =
-    let parts = three_parts (has_row rows cuts name) (is_solid s) (is_conflict s (row_named rows cuts name)) test in
-    all_three (has_row rows (cuts ++ more) name) (is_solid s) (is_conflict s (row_named rows (cuts ++ more) name)) (has_row_more rows cuts more name parts.0) parts.1
+    let parts = three_parts (has_row rows cuts name) (has_no_empty s) (is_conflict s (row_named rows cuts name)) test in
+    all_three (has_row rows (cuts ++ more) name) (has_no_empty s) (is_conflict s (row_named rows (cuts ++ more) name)) (has_row_more rows cuts more name parts.0) parts.1
     (ap (λ (row : Row). is_conflict s row) (named_more rows cuts more name parts.0) ∙ parts.2)
 
 pair_row : (rows cuts : List Row) (p : Pair) → is_pair rows cuts p ≡ true → (has_row rows cuts p.row ≡ true) × (nat_le p.weight MAX_MULTIPLIER ≡ true)
@@ -124,10 +124,10 @@ numerator_more m cuts more s pairs known =
     (int_sum_below-same (length m.costs) (λ j. share s (reduced_cost m (cuts ++ more) (multipliers m.rows (cuts ++ more) pairs) j) j) (λ j. share s (reduced_cost m cuts (multipliers m.rows cuts pairs) j) j)
     (λ j h. ap (λ (z : ℤ). share s ((pos 1024 *ℤ int_at m.costs j) -ℤ z) j) (weighted_more m cuts more pairs (λ row. coefficient j row.terms) known)))
 
-bound_more : (m : ModelParts) (cuts more : List Row) (v : ℤ) (s : Sides) (pairs : List Pair) → is_bound m cuts v s pairs ≡ true → is_bound m (cuts ++ more) v s pairs ≡ true
+bound_more : (m : ModelParts) (cuts more : List Row) (v : ℤ) (s : Sides) (pairs : List Pair) → is_bound_by m cuts v s pairs ≡ true → is_bound_by m (cuts ++ more) v s pairs ≡ true
 bound_more m cuts more v s pairs test =
-    let parts = four_parts (list_all (is_pair m.rows cuts) pairs) (are_rising pairs) (is_solid s) (int_le v (lagrangian_bound m cuts s (multipliers m.rows cuts pairs))) test in
-    all_four (list_all (is_pair m.rows (cuts ++ more)) pairs) (are_rising pairs) (is_solid s) (int_le v (lagrangian_bound m (cuts ++ more) s (multipliers m.rows (cuts ++ more) pairs))) (pairs_more m.rows cuts more pairs parts.0) parts.1 parts.2
+    let parts = four_parts (list_all (is_pair m.rows cuts) pairs) (are_rising pairs) (has_no_empty s) (int_le v (lagrangian_bound m cuts s (multipliers m.rows cuts pairs))) test in
+    all_four (list_all (is_pair m.rows (cuts ++ more)) pairs) (are_rising pairs) (has_no_empty s) (int_le v (lagrangian_bound m (cuts ++ more) s (multipliers m.rows (cuts ++ more) pairs))) (pairs_more m.rows cuts more pairs parts.0) parts.1 parts.2
     (ap (λ (z : ℤ). int_le v (ceiling_quotient z (pos 1024))) (numerator_more m cuts more s pairs parts.0) ∙ parts.3)
 
 closing_more : (m : ModelParts) (cuts more : List Row) (v : ℤ) (s : Sides) (closing : Closing) → closing_reason m cuts v s closing ≡ None → closing_reason m (cuts ++ more) v s closing ≡ None
@@ -135,7 +135,7 @@ closing_more m cuts more v s (Conflict name) none =
     unless-from BadConflict (is_conflict_at m.rows (cuts ++ more) s name) (conflict_more m.rows cuts more s name (unless-none BadConflict (is_conflict_at m.rows cuts s name) none))
 closing_more m cuts more v s (Empty col) none = none
 closing_more m cuts more v s (Bound pairs) none =
-    unless-from BadBound (is_bound m (cuts ++ more) v s pairs) (bound_more m cuts more v s pairs (unless-none BadBound (is_bound m cuts v s pairs) none))
+    unless-from BadBound (is_bound_by m (cuts ++ more) v s pairs) (bound_more m cuts more v s pairs (unless-none BadBound (is_bound_by m cuts v s pairs) none))
 
 pub leaf_holds_over_more : LeafHoldsOverMore
 leaf_holds_over_more m cuts more v s leaf holds =

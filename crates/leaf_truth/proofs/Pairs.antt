@@ -68,7 +68,7 @@ weight_below name naming i [] k below = refl
 weight_below name naming i (y ∷ ys) k below =
     with_pair_other (name i) (name k) y (pairs_from name (i + 1) ys) (naming.other i k (λ e. omega (arith, e, below))) ∙ weight_below name naming (i + 1) ys k (omega (arith, below))
 
-weights_same : (name : ℕ → RowRef) (rows : List Row) (i : ℕ) (first second : List Pair) → ((k : ℕ) → i ≤ k → weight_of first (name k) ≡ weight_of second (name k)) → weights_from name i rows first ≡ weights_from name i rows second
+pub weights_same : (name : ℕ → RowRef) (rows : List Row) (i : ℕ) (first second : List Pair) → ((k : ℕ) → i ≤ k → weight_of first (name k) ≡ weight_of second (name k)) → weights_from name i rows first ≡ weights_from name i rows second
 weights_same name [] i first second same = refl
 weights_same name (row ∷ rows) i first second same =
     ap₂ (λ (w : ℕ) (ws : List ℕ). w ∷ ws) (same i (omega arith)) (weights_same name rows (i + 1) first second (λ k above. same k (omega (arith, above))))

@@ -18,8 +18,8 @@ use Rattle.row_propagate.specs.Lawful.{IsLawfulStep, AreLawfulSteps}
 use Rattle.row_propagate.proofs.FirstEmpty.{first_empty_none}
 use Rattle.leaf_truth.specs.declared.reason.LeafReason.{LeafReason}
 use Rattle.leaf_truth.specs.declared.reason.LeafReason.TheVariants.{BadStep}
-use Rattle.leaf_truth.specs.Steps.{has_row, is_solid, is_on_side, is_row_step, is_step, are_steps}
-use Rattle.leaf_truth.specs.Leaves.{reason_unless, closing_reason, LeafHolds}
+use Rattle.leaf_truth.specs.Steps.{has_row, has_no_empty, is_on_side, is_row_step, is_lawful_step, are_lawful_steps}
+use Rattle.leaf_truth.specs.Leaves.{reason_unless, closing_reason, IsValidLeaf}
 
 pub all_three : (a b c : Bool) → a ≡ true → b ≡ true → c ≡ true → (a && b && c) ≡ true
 all_three a b c first second third = and_from (a && b) c (and_from a b first second) third
@@ -56,7 +56,7 @@ pub has_row-from : (rows cuts : List Row) (name : RowRef) → HasRow rows cuts n
 has_row-from rows cuts (Model i) known = lt-ltb i (length rows) known
 has_row-from rows cuts (Cut i) known = lt-ltb i (length cuts) known
 
-pub solid-from : (s : Sides) → HasNoEmpty s → is_solid s ≡ true
+pub solid-from : (s : Sides) → HasNoEmpty s → has_no_empty s ≡ true
 solid-from s solid = ap (λ (o : Option ℕ). is_none o) (first_empty_none s solid)
 
 below_zero : (coef : ℤ) → int_lt (pos 0) coef ≡ false → coef ≢ pos 0 → int_lt coef (pos 0) ≡ true
@@ -69,19 +69,19 @@ side_cases true coef is stands = is
 side_cases false coef is stands = below_zero coef is stands
 
 -- a lawful step passes
-pub step-from : (rows cuts : List Row) (s : Sides) (step : Tighten) → IsLawfulStep rows cuts s step → is_step rows cuts s step ≡ true
+pub step-from : (rows cuts : List Row) (s : Sides) (step : Tighten) → IsLawfulStep rows cuts s step → is_lawful_step rows cuts s step ≡ true
 step-from rows cuts s step lawful =
     let row = row_named rows cuts step.row in
     let coef = coefficient step.col row.terms in
     and_from (has_row rows cuts step.row) (is_row_step row s step) (has_row-from rows cuts step.row lawful.row)
-    (all_three (nat_lt step.col (length s.lows)) (is_on_side step.low coef) (is_solid s) (lt-ltb step.col (length s.lows) lawful.col) (side_cases step.low coef (sym lawful.side) lawful.stands) (solid-from s lawful.solid))
+    (all_three (nat_lt step.col (length s.lows)) (is_on_side step.low coef) (has_no_empty s) (lt-ltb step.col (length s.lows) lawful.col) (side_cases step.low coef (sym lawful.side) lawful.stands) (solid-from s lawful.solid))
 
 -- and so do lawful steps
-pub steps-from : (rows cuts : List Row) (s : Sides) (steps : List Tighten) → AreLawfulSteps rows cuts s steps → are_steps rows cuts s steps ≡ true
+pub steps-from : (rows cuts : List Row) (s : Sides) (steps : List Tighten) → AreLawfulSteps rows cuts s steps → are_lawful_steps rows cuts s steps ≡ true
 steps-from rows cuts s [] lawful = refl
 steps-from rows cuts s (step ∷ steps) lawful =
     let next = tight_box (row_named rows cuts step.row) s step.col in
-    and_from (is_step rows cuts s step) (are_steps rows cuts next steps) (step-from rows cuts s step lawful.0) (steps-from rows cuts next steps lawful.1)
+    and_from (is_lawful_step rows cuts s step) (are_lawful_steps rows cuts next steps) (step-from rows cuts s step lawful.0) (steps-from rows cuts next steps lawful.1)
 
 -- a test that passes leaves no reason, and without a reason it passes
 pub unless-from : (why : LeafReason) (b : Bool) → b ≡ true → reason_unless why b ≡ None
@@ -96,11 +96,11 @@ both_none why true o none = (refl, none)
 both_none why false o none = absurd (none-some why (sym none))
 
 -- a leaf holds where its steps can be made and its closing has no reason on the box after them
-pub leaf-from : (m : ModelParts) (cuts : List Row) (v : ℤ) (s : Sides) (leaf : Leaf) → are_steps m.rows cuts s leaf.steps ≡ true → closing_reason m cuts v (replay (row_named m.rows cuts) s leaf.steps) leaf.closing ≡ None → LeafHolds m cuts v s leaf
+pub leaf-from : (m : ModelParts) (cuts : List Row) (v : ℤ) (s : Sides) (leaf : Leaf) → are_lawful_steps m.rows cuts s leaf.steps ≡ true → closing_reason m cuts v (replay (row_named m.rows cuts) s leaf.steps) leaf.closing ≡ None → IsValidLeaf m cuts v s leaf
 leaf-from m cuts v s leaf steps closing = record {
-  no_reason = cond-true (are_steps m.rows cuts s leaf.steps) (closing_reason m cuts v (replay (row_named m.rows cuts) s leaf.steps) leaf.closing) (Some BadStep) steps ∙ closing;
+  no_reason = cond-true (are_lawful_steps m.rows cuts s leaf.steps) (closing_reason m cuts v (replay (row_named m.rows cuts) s leaf.steps) leaf.closing) (Some BadStep) steps ∙ closing;
 }
 
 -- and only there
-pub leaf-holds : (m : ModelParts) (cuts : List Row) (v : ℤ) (s : Sides) (leaf : Leaf) → LeafHolds m cuts v s leaf → (are_steps m.rows cuts s leaf.steps ≡ true) × (closing_reason m cuts v (replay (row_named m.rows cuts) s leaf.steps) leaf.closing ≡ None)
-leaf-holds m cuts v s leaf holds = both_none BadStep (are_steps m.rows cuts s leaf.steps) (closing_reason m cuts v (replay (row_named m.rows cuts) s leaf.steps) leaf.closing) holds.no_reason
+pub leaf-holds : (m : ModelParts) (cuts : List Row) (v : ℤ) (s : Sides) (leaf : Leaf) → IsValidLeaf m cuts v s leaf → (are_lawful_steps m.rows cuts s leaf.steps ≡ true) × (closing_reason m cuts v (replay (row_named m.rows cuts) s leaf.steps) leaf.closing ≡ None)
+leaf-holds m cuts v s leaf holds = both_none BadStep (are_lawful_steps m.rows cuts s leaf.steps) (closing_reason m cuts v (replay (row_named m.rows cuts) s leaf.steps) leaf.closing) holds.no_reason

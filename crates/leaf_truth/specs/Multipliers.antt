@@ -35,7 +35,8 @@ weights_from name place [] pairs = []
 weights_from name place (row ∷ rows) pairs =
     weight_of pairs (name place) ∷ weights_from name (place + 1) rows pairs
 
--- one multiplier for each row of the model and then for each cut: the weight of its pair, and 0 where it has none
+-- one multiplier for each row of the model and then for each cut: the weight of its pair, and 0
+-- where it has none
 abbrev pub multipliers : List Row → List Row → List Pair → List ℕ
 multipliers rows cuts pairs = weights_from (name_at (length rows)) 0 (rows ++ cuts) pairs
 

@@ -1,4 +1,4 @@
-ghost use Rattle.leaf_truth.specs.Laws.{BoundGivesLeaf, LeafCloses, LeafHoldsBelow, LeafHoldsOverMore, OutcomeGivesLeaf};
+ghost use Rattle.leaf_truth.specs.Laws.{BoundGivesLeaf, LeafCloses, LeafHoldsBelow, LeafHoldsOverMore, LeafReasonIsExact, OutcomeGivesLeaf};
 
 /// A law with nothing to run: a leaf that holds at a value on a box closes the box at this value, where every feasible
 /// point meets the cuts.
@@ -26,4 +26,10 @@ pub fn leaf_holds_below()
 /// A law with nothing to run: a leaf that holds over cuts holds where more cuts stand behind them.
 pub fn leaf_holds_over_more()
     ensures { LeafHoldsOverMore }
+{}
+
+/// A law with nothing to run: a leaf has no reason exactly where each of its steps is lawful on the box after the steps
+/// before it, and its closing is so of the box after all of them.
+pub fn leaf_reason_is_exact()
+    ensures { LeafReasonIsExact }
 {}
