@@ -1,0 +1,12 @@
+pub mod Examples
+pub mod Tests
+pub mod Closes
+pub mod Below
+pub mod Pairs
+pub mod Given
+pub mod OverMore
+pub mod Solid
+pub mod Coefficients
+pub mod Writing
+pub mod Stepping
+pub mod Exactly

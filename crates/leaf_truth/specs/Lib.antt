@@ -1,0 +1,5 @@
+pub mod Steps
+pub mod Multipliers
+pub mod Rooms
+pub mod Leaves
+pub mod Laws
