@@ -71,8 +71,7 @@ entry_counted v (Closed node) c =
     }
 entry_counted v Halt c = record {
   starts = le_more _ _ c.starts;
-  cut_starts =
-      le_more _ _ c.cut_starts;
+  cut_starts = le_more _ _ c.cut_starts;
   heuristic_starts = le_more _ _ c.heuristic_starts;
 }
 
@@ -100,8 +99,7 @@ new_split m v (Cut derivation) may = tt
 new_split m v (Split node col at first keep bound) may = record {
   successors = record {
     number = omega (arith, ints, may.cut.below);
-    name =
-        omega (arith, may.room);
+    name = omega (arith, may.room);
   };
   first_new = may.first_new;
   second_new = may.second_new;

@@ -61,14 +61,12 @@ abbrev pub with_children : View → OpenNode → OpenNode → ℕ → View
 with_children v low high zero =
     record v {
       held_nodes = v.held_nodes ++ low.name ∷ [];
-      open_nodes =
-          insert_open high v.open_nodes;
+      open_nodes = insert_open high v.open_nodes;
     }
 with_children v low high (suc zero) =
     record v {
       held_nodes = v.held_nodes ++ high.name ∷ [];
-      open_nodes =
-          insert_open low v.open_nodes;
+      open_nodes = insert_open low v.open_nodes;
     }
 with_children v low high (suc (suc more)) =
     record v { open_nodes = insert_open high (insert_open low v.open_nodes) }

@@ -246,8 +246,7 @@ gone_known : (v : View) (node : ℕ) → AreKnown v → AreKnown (without_held v
 gone_known v node known =
     record {
       opened = known.opened;
-      held =
-          All-without_name (λ name. is_known v name ≡ true) node v.held_nodes known.held;
+      held = All-without_name (λ name. is_known v name ≡ true) node v.held_nodes known.held;
     }
 
 same_lists : (v w : View) → w.open_nodes ≡ v.open_nodes → w.held_nodes ≡ v.held_nodes
@@ -303,8 +302,7 @@ boxes_are_parts = record {
     opened =
         All-cons (λ node. is_known (fresh_view m settings) node.name ≡ true) (open_node 0 _) [] refl
         (All-nil (λ node. is_known (fresh_view m settings) node.name ≡ true));
-    held =
-        All-nil (λ name. is_known (fresh_view m settings) name ≡ true);
+    held = All-nil (λ name. is_known (fresh_view m settings) name ≡ true);
   };
   known_after = λ m v e known may. entry_known m v e known may.joins;
   root = λ m settings root. refl;
