@@ -15,7 +15,7 @@ use Rattle.leaf_truth.specs.Steps.{has_no_empty}
 use Rattle.leaf_truth.specs.Multipliers.{multipliers, is_pair, are_rising}
 use Rattle.leaf_truth.specs.Leaves.{is_bound_by, closing_reason}
 use Rattle.leaf_truth.specs.Laws.{LeafHoldsBelow}
-use Rattle.leaf_truth.proofs.Tests.{all_four, four_parts, int_le-from, int_le-true, unless-from, unless-none, leaf-from, leaf-holds}
+use Rattle.leaf_truth.proofs.TestResults.{all_four, four_parts, int_le-from, int_le-true, unless-from, unless-none, leaf-from, leaf-holds}
 
 lesser_test : (lesser v b : ℤ) → lesser ≤ℤ v → int_le v b ≡ true → int_le lesser b ≡ true
 lesser_test lesser v b order test = let high : v ≤ℤ b = int_le-true v b test in int_le-from lesser b (omega (arith, ints))

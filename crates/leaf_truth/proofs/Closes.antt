@@ -27,7 +27,7 @@ use Rattle.leaf_truth.specs.Steps.{has_row, has_no_empty}
 use Rattle.leaf_truth.specs.Multipliers.{multipliers, is_pair, are_rising}
 use Rattle.leaf_truth.specs.Leaves.{is_conflict, is_conflict_at, is_empty_column, is_bound_by, closing_reason}
 use Rattle.leaf_truth.specs.Laws.{LeafCloses}
-use Rattle.leaf_truth.proofs.Tests.{three_parts, four_parts, int_lt-true, int_le-true, unless-none, leaf-holds}
+use Rattle.leaf_truth.proofs.TestResults.{three_parts, four_parts, int_lt-true, int_le-true, unless-none, leaf-holds}
 
 between : (a b c : ℤ) → a ≤ℤ b → b ≤ℤ c → a ≤ℤ c
 between a b c first second = omega (arith, ints)

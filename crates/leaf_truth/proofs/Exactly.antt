@@ -27,7 +27,7 @@ use Rattle.leaf_truth.specs.Steps.{has_row, has_no_empty, is_on_side, is_row_ste
 use Rattle.leaf_truth.specs.Multipliers.{multipliers, is_pair, rise_after, are_rising}
 use Rattle.leaf_truth.specs.Leaves.{is_conflict, is_conflict_at, is_empty_column, is_bound_by, closing_reason}
 use Rattle.leaf_truth.specs.Laws.{IsBoundBy, IsClosing, LeafReasonIsExact}
-use Rattle.leaf_truth.proofs.Tests.{all_four, three_parts, four_parts, int_lt-true, int_le-from, int_le-true, has_row-from, solid-from, steps-from, unless-from, unless-none, leaf-from, leaf-holds}
+use Rattle.leaf_truth.proofs.TestResults.{all_four, three_parts, four_parts, int_lt-true, int_le-from, int_le-true, has_row-from, solid-from, steps-from, unless-from, unless-none, leaf-from, leaf-holds}
 use Rattle.leaf_truth.proofs.Given.{conflict_test, empty_test}
 use Rattle.leaf_truth.proofs.Solid.{solid_holds}
 

@@ -22,7 +22,7 @@ use Rattle.leaf_truth.specs.Steps.{has_row, has_no_empty}
 use Rattle.leaf_truth.specs.Multipliers.{multipliers, pairs_of, is_pair, are_rising}
 use Rattle.leaf_truth.specs.Leaves.{is_conflict, is_conflict_at, is_empty_column, is_bound_by, closing_reason, IsValidLeaf}
 use Rattle.leaf_truth.specs.Laws.{leaf_of, closing_of, OutcomeGivesLeaf, BoundGivesLeaf}
-use Rattle.leaf_truth.proofs.Tests.{all_three, all_four, int_lt-from, int_le-from, has_row-from, solid-from, steps-from, unless-from, leaf-from}
+use Rattle.leaf_truth.proofs.TestResults.{all_three, all_four, int_lt-from, int_le-from, has_row-from, solid-from, steps-from, unless-from, leaf-from}
 use Rattle.leaf_truth.proofs.Pairs.{multipliers_again, pairs_rise, pairs_known}
 
 pub conflict_test : (rows cuts : List Row) (s : Sides) (name : RowRef) → IsConflictAt rows cuts s name → is_conflict_at rows cuts s name ≡ true

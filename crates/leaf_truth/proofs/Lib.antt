@@ -1,5 +1,5 @@
 pub mod Examples
-pub mod Tests
+pub mod TestResults
 pub mod Closes
 pub mod Below
 pub mod Pairs

@@ -28,7 +28,7 @@ use Rattle.leaf_truth.specs.Multipliers.{name_at, is_same_row, weight_of, weight
 use Rattle.leaf_truth.specs.Leaves.{is_conflict, is_conflict_at, is_bound_by, closing_reason}
 use Rattle.leaf_truth.specs.Laws.{LeafHoldsOverMore}
 use Rattle.leaf_truth.proofs.Pairs.{name_of_cut}
-use Rattle.leaf_truth.proofs.Tests.{all_three, three_parts, all_four, four_parts, unless-from, unless-none, leaf-from, leaf-holds}
+use Rattle.leaf_truth.proofs.TestResults.{all_three, three_parts, all_four, four_parts, unless-from, unless-none, leaf-from, leaf-holds}
 
 -- a row that there was is there still, and is the same
 has_row_more : (rows cuts more : List Row) (name : RowRef) → has_row rows cuts name ≡ true → has_row rows (cuts ++ more) name ≡ true

@@ -13,7 +13,7 @@ use Rattle.row_propagate.specs.Replay.{HasRow}
 use Rattle.safe_bound.specs.declared.limits.TheConstants.{MAX_MULTIPLIER}
 use Rattle.leaf_truth.specs.Steps.{has_row}
 use Rattle.leaf_truth.specs.Multipliers.{name_at, is_same_row, weight_of, weights_from, multipliers, with_pair, pairs_from, pairs_of, is_pair, rise_after, are_rising}
-use Rattle.leaf_truth.proofs.Tests.{has_row-from}
+use Rattle.leaf_truth.proofs.TestResults.{has_row-from}
 
 -- names of rows by number, each of another row, in rising order
 pub record IsNaming (name : ℕ → RowRef) : Type 0 where

@@ -19,7 +19,7 @@ use Rattle.row_propagate.specs.Passes.{first_or, first_below, first_empty}
 use Rattle.row_propagate.proofs.FirstEmpty.{first_empty_none, first_empty_at}
 use Rattle.row_propagate.proofs.Replaying.{tight_box_within}
 use Rattle.leaf_truth.specs.Steps.{has_no_empty, is_open_at}
-use Rattle.leaf_truth.proofs.Tests.{int_le-from, int_le-true, solid-from}
+use Rattle.leaf_truth.proofs.TestResults.{int_le-from, int_le-true, solid-from}
 
 first_or-none : (a b : Option ℕ) → first_or a b ≡ None → (a ≡ None) × (b ≡ None)
 first_or-none None b none = (refl, none)

@@ -17,7 +17,7 @@ use Rattle.leaf_truth.specs.declared.reason.LeafReason.{LeafReason}
 use Rattle.leaf_truth.specs.declared.reason.LeafReason.TheVariants.{BadStep}
 use Rattle.leaf_truth.specs.Steps.{has_row, has_no_empty, is_open_at, is_on_side, is_row_step, is_lawful_step, are_lawful_steps, box_after}
 use Rattle.leaf_truth.specs.Leaves.{closing_reason, leaf_reason}
-use Rattle.leaf_truth.proofs.Tests.{three_parts}
+use Rattle.leaf_truth.proofs.TestResults.{three_parts}
 use Rattle.leaf_truth.proofs.Solid.{solid_holds, solid_after}
 
 -- whether a step can be made, by the row of its name
