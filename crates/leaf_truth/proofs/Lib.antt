@@ -10,3 +10,4 @@ pub mod Coefficients
 pub mod Writing
 pub mod Stepping
 pub mod Exactly
+pub mod TestBoxes

@@ -330,7 +330,6 @@ fn closing_of(alloc: Global, end: End) -> Result<Closing, OutOfMemory> {
 }
 
 /// The root box with x in `low` to `high`.
-#[tactic(auto, using(ip_core::proofs::NarrowerBoxes::within_both, ip_core::proofs::NarrowerBoxes::within_raised, ip_core::proofs::NarrowerBoxes::within_lowered))]
 fn part_of(alloc: Global, root: &Bounds, low: i64, high: i64) -> Result<Bounds, Fail>
     ensures { IfOk result (λ part. IsWithin root.now part) }
 {
