@@ -15,7 +15,7 @@ pub record Branch : Type 0 where
   -- that of both children
   pub bound : ℤ
 
--- there is a number above `at`, and a name after `first`
+-- the number above `at` and the name after `first` fit their types
 pub record HasSuccessors (at : ℤ) (first : ℕ) : Type 0 where
   pub number : at <ℤ pos (2 ^ 62)
   pub name : first + 1 < 2 ^ 64

@@ -18,7 +18,8 @@ best_open v = first_name v.open_nodes
 abbrev pub wants_cuts : View → Bool
 wants_cuts v = v.settings.cuts && v.has_rows && nat_eq v.cut_starts 0
 
--- whether a feasible point is to be looked for from an open node: at most once in eight starts
+-- whether a feasible point is to be looked for from an open node: before the first start never, and
+-- then while eight times the looks are fewer than the starts
 abbrev pub wants_heuristic : View → Bool
 wants_heuristic v = v.settings.heuristics && nat_lt (8 * v.heuristic_starts) v.starts
 

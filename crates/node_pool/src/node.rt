@@ -4,8 +4,8 @@ ghost use Rattle.node_pool.specs.Nodes.{IsNameAt, first_named, insert_open as in
 use ip_core::OutOfMemory;
 use std::collections::BTreeSet;
 
-/// An open node: a bound below which no feasible point of its box has its value, and its name. Open
-/// nodes are in the order of their bounds, and where those are equal in the order of their names.
+/// An open node: the bound by which it is picked, and its name. Open nodes are in the order of their
+/// bounds, and where those are equal in the order of their names.
 #[derive(Clone, Copy, Debug, PartialEq, Eq, PartialOrd, Ord)]
 pub struct OpenNode {
     pub bound: i64,

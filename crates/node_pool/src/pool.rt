@@ -287,8 +287,8 @@ impl Pool {
         self.settings.cuts && self.has_rows && self.cut_starts == 0
     }
 
-    /// Whether a feasible point is to be looked for from an open node: at most once in eight
-    /// starts.
+    /// Whether a feasible point is to be looked for from an open node: while eight times the looks
+    /// are fewer than the starts.
     fn wants_heuristic(&self) -> bool
         ensures { result ≡ wants_heuristic_of self.now }
     {
