@@ -1,6 +1,12 @@
-use Rattle.std.proofs.Common.{◌≡◌, ℕ, Result, Ok, Err, sym, ap, subst}
-use Rattle.xsearch.specs.Runs.{Ends, Runs}
-use Rattle.xsearch_words.specs.Shelf.{ShelfState}
+-- How what was found becomes the end of a run.
+use Rattle.std.proofs.Common.{◌≡◌, ℕ, List, Result, Ok, Err, refl, sym, ap, subst}
+use Rattle.mps_model.specs.declared.model.MpsModel.{MpsModel}
+use Rattle.xsearch.specs.ModelFiles.{IsFileFailure, IsFileJob, IsModelFile, OfModel, NoModel}
+use Rattle.xsearch.specs.Runs.{Ends}
+use Rattle.xsearch.specs.Shelves.{IsOneRead}
+use Rattle.xsearch.specs.Writes.{IsWritten, Whole}
+use Rattle.xsearch_words.proofs.OutputWrites.{none_written}
+use Rattle.xsearch_words.specs.Shelf.{HasNoFault, ShelfState}
 use Rattle.xsearch_words.specs.Sink.{SinkState}
 use Rattle.xsearch.specs.declared.outcome.Outcome.{Outcome}
 use Rattle.xsearch.specs.declared.outcome.Failure.{Failure}
@@ -13,20 +19,44 @@ abbrev found : {A : Type 0} → A → Result A Failure
 found a = Ok a
 
 -- what was found is no failed read
-pub found_is_read : {A : Type 0} (a : A) → found a ≡ failed A ReadFailed → ⊥
+found_is_read : {A : Type 0} (a : A) → found a ≡ failed A ReadFailed → ⊥
 found_is_read a e = cc
 
 same_failure : (A : Type 0) (f g : Failure) → failed A f ≡ failed A g → f ≡ g
 same_failure A f g e = cc
 
 -- a failure that is no failed read is none whatever was looked for
-pub other_failure : (A B : Type 0) (f : Failure) → (failed A f ≡ failed A ReadFailed → ⊥) → failed B f ≡ failed B ReadFailed → ⊥
+other_failure : (A B : Type 0) (f : Failure) → (failed A f ≡ failed A ReadFailed → ⊥) → failed B f ≡ failed B ReadFailed → ⊥
 other_failure A B f other e = other (ap (failed A) (same_failure B f ReadFailed e))
 
--- a run that ends with what was found has its cause
-pub with_cause : (P : Result Outcome Failure → Type 0) (found : Result Outcome Failure) (old new : SinkState) (code : ℕ) → P found → Ends (λ f. f ≡ found) old new code → Ends P old new code
-with_cause P found old new code cause ends = record {
-  found = ends.found;
+-- what is found of a model that a file reads as
+pub of_model : (next : MpsModel → Result Outcome Failure → Type 0) (old new : ShelfState) (name : List ℕ) (mps : MpsModel) (outcome : Result Outcome Failure)
+    → IsModelFile old name mps → IsOneRead old new → ((found mps ≡ failed MpsModel ReadFailed → ⊥) → HasNoFault old new) → next mps outcome
+    → IsFileJob next old new name outcome
+of_model next old new name mps outcome file read quiet comes = record {
+  read = read;
+  of_file = OfModel (record { mps = mps; file = file; comes = comes });
+  quiet = λ other. quiet (found_is_read mps);
+}
+
+-- what is found where a file gives no model
+pub of_no_model : (next : MpsModel → Result Outcome Failure → Type 0) (old new : ShelfState) (name : List ℕ) (failure : Failure)
+    → IsFileFailure old new name failure → IsOneRead old new → ((failed MpsModel failure ≡ failed MpsModel ReadFailed → ⊥) → HasNoFault old new)
+    → IsFileJob next old new name (Err failure)
+of_no_model next old new name failure cause read quiet = record {
+  read = read;
+  of_file = NoModel (record { failure = failure; is = refl; cause = cause });
+  quiet = λ other. quiet (other_failure Outcome MpsModel failure other);
+}
+
+-- a failure has no files
+pub nothing_to_write : (failure : Failure) (state : ShelfState) → IsWritten (Err failure) state state (Err failure)
+nothing_to_write failure state = Whole refl (none_written state)
+
+-- a run that ends with what it came to has its cause
+pub with_cause : (P : Result Outcome Failure → Type 0) (ended : Result Outcome Failure) (old new : SinkState) (code : ℕ) → P ended → Ends (λ e. e ≡ ended) old new code → Ends P old new code
+with_cause P ended old new code cause ends = record {
+  ended = ends.ended;
   status = ends.status;
   cause = subst P (sym ends.cause) cause;
   ending = ends.ending;
@@ -34,18 +64,11 @@ with_cause P found old new code cause ends = record {
 }
 
 -- what has a cause has each cause that follows from it
-pub weaker_end : (P Q : Result Outcome Failure → Type 0) (old new : SinkState) (code : ℕ) → ((found : Result Outcome Failure) → P found → Q found) → Ends P old new code → Ends Q old new code
-weaker_end P Q old new code follows ends = record {
-  found = ends.found;
+pub weaker : (P Q : Result Outcome Failure → Type 0) (old new : SinkState) (code : ℕ) → ((ended : Result Outcome Failure) → P ended → Q ended) → Ends P old new code → Ends Q old new code
+weaker P Q old new code follows ends = record {
+  ended = ends.ended;
   status = ends.status;
-  cause = follows ends.found ends.cause;
+  cause = follows ends.ended ends.cause;
   ending = ends.ending;
   exit = ends.exit;
-}
-
--- the same of a run
-pub weaker : (P Q : Result Outcome Failure → Type 0) (shelf_old shelf_new : ShelfState) (sink_old sink_new : SinkState) (code : ℕ) → ((found : Result Outcome Failure) → P found → Q found) → Runs P shelf_old shelf_new sink_old sink_new code → Runs Q shelf_old shelf_new sink_old sink_new code
-weaker P Q shelf_old shelf_new sink_old sink_new code follows runs = record {
-  ends = weaker_end P Q sink_old sink_new code follows runs.ends;
-  files_stay = runs.files_stay;
 }

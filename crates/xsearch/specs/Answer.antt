@@ -30,6 +30,13 @@ abbrev pub point_text : ModelParts → Option Best → List ℕ
 point_text m None = codes "objective none\n"
 point_text m (Some best) = objective_line m best.value ++ column_lines m.cols best.point
 
+-- the word of a status
+abbrev pub status_word : Status → List ℕ
+status_word Optimal = codes "optimal"
+status_word Infeasible = codes "infeasible"
+status_word StoreLimit = codes "storelimit"
+status_word WorkLimit = codes "worklimit"
+
 -- the text of an answer: its status, and unless no point is feasible the point and its objective
 abbrev pub answer_text : ModelParts → Status → Option Best → List ℕ
 answer_text m Optimal best = codes "status optimal\n" ++ point_text m best

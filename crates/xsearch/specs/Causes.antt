@@ -1,5 +1,5 @@
 -- The cause of what a command found.
-use Rattle.std.specs.Prelude.{ℕ, ◌≡◌, List, Option, Some, None, Result, Ok, Err}
+use Rattle.std.specs.Prelude.{ℕ, ◌≡◌, List, [], Option, Some, None, Result, Ok, Err}
 use Rattle.ip_core.specs.declared.model.ModelParts.{ModelParts}
 use Rattle.mps_model.specs.Prints.{canonical_text}
 use Rattle.mps_model.specs.declared.model.MpsModel.{MpsModel}
@@ -14,38 +14,39 @@ use Rattle.xsearch_words.specs.Shelf.{ShelfState}
 use Rattle.xsearch_words.specs.declared.job.Job.{Job}
 use Rattle.xsearch_words.specs.declared.job.Job.TheVariants.{Solve, Alone, Show, Gen}
 use Rattle.xsearch_words.specs.declared.job.SolveJob.{SolveJob}
-use Rattle.xsearch_words.specs.declared.tune.Tune.{Tune}
 use Rattle.xsearch.specs.Answer.{answer_text}
+use Rattle.xsearch.specs.Endings.{exit_of}
 use Rattle.xsearch.specs.FileAnswers.{IsTrueOfFile}
 use Rattle.xsearch.specs.ModelFiles.{IsFileJob}
-use Rattle.xsearch.specs.Searches.{limits_of, machine_answer}
-use Rattle.xsearch.specs.declared.outcome.PrintedAnswer.{PrintedAnswer}
+use Rattle.xsearch.specs.Searches.{limits_of, machine_answer, machine_history}
+use Rattle.xsearch.specs.Writes.{IsWritten, solve_files}
 use Rattle.xsearch.specs.declared.outcome.Outcome.{Outcome}
-use Rattle.xsearch.specs.declared.outcome.Outcome.TheVariants.{Answered, Printed}
 use Rattle.xsearch.specs.declared.outcome.Failure.{Failure}
 use Rattle.xsearch.specs.declared.outcome.Failure.TheVariants.{Words, Model, Memory}
+use Rattle.xsearch.specs.declared.status.ExitStatus.TheVariants.{Done}
 
--- An answer of a model, and what is printed of it. The first line says where it comes from: the machine's search with these
--- tasks and limits. The others are said of the answer, whatever found it: what is printed is its text, it is true of the
--- model, and a status of a limit has its cause in the slots.
-pub record IsAnswer (m : ModelParts) (tune : Tune) (answer : Answer)
-    (print : PrintedAnswer) : Type 0 where
-  pub machine : answer ≡ machine_answer m tune
-  pub status : print.status ≡ answer.status
-  pub text : print.text ≡ answer_text m answer.status answer.best
+-- An answer of a model, and what solving the model finds. The answer is that of the machine's search
+-- with these tasks and limits. The rest is said of it whatever found it: its status and its text are
+-- those of the run, it is true of the model, and a status of a limit has its cause in the slots.
+pub record IsAnswer (m : ModelParts) (asked : SolveJob) (answer : Answer)
+    (outcome : Outcome) : Type 0 where
+  pub machine : answer ≡ machine_answer m asked.tune
+  pub exit : outcome.exit ≡ exit_of answer.status
+  pub text : outcome.text ≡ answer_text m answer.status answer.best
+  pub files : outcome.files ≡ solve_files asked (machine_history m asked.tune) answer.status
   pub truth : IsTrueAnswer m answer
-  pub limit : IsLimitCause m (limits_of tune) answer.status
+  pub limit : IsLimitCause m (limits_of asked.tune) answer.status
 
 -- the answer of the model that a file's model is admitted as, which is true of the file's own model
-pub record IsFileAnswer (tune : Tune) (upper : Option ℕ) (mps : MpsModel)
+pub record IsFileAnswer (asked : SolveJob) (mps : MpsModel)
     (found : Result Outcome Failure) : Type 0 where
   pub m : ModelParts
   pub answer : Answer
-  pub print : PrintedAnswer
-  pub is : found ≡ Ok (Answered print)
-  pub admits : Admits mps upper m
-  pub of_model : IsAnswer m tune answer print
-  pub of_file : IsTrueOfFile mps upper m answer
+  pub outcome : Outcome
+  pub is : found ≡ Ok outcome
+  pub admits : Admits mps asked.default_upper m
+  pub of_model : IsAnswer m asked answer outcome
+  pub of_file : IsTrueOfFile mps asked.default_upper m answer
 
 -- the reason why a file's model isn't admitted
 pub record IsRefusal (upper : Option ℕ) (mps : MpsModel)
@@ -55,21 +56,29 @@ pub record IsRefusal (upper : Option ℕ) (mps : MpsModel)
   pub refused : refusal mps upper ≡ Some reason
 
 -- what solving a file's model finds: its answer, why it isn't admitted, or no memory, which is free
-pub data IsSolved (tune : Tune) (upper : Option ℕ) (mps : MpsModel)
+pub data IsSolved (asked : SolveJob) (mps : MpsModel)
     (found : Result Outcome Failure) : Type 0 where
-  Solved : IsFileAnswer tune upper mps found → IsSolved tune upper mps found
-  NotAdmitted : IsRefusal upper mps found → IsSolved tune upper mps found
-  Unsolved : found ≡ Err Memory → IsSolved tune upper mps found
+  Solved : IsFileAnswer asked mps found → IsSolved asked mps found
+  NotAdmitted : IsRefusal asked.default_upper mps found → IsSolved asked mps found
+  Unsolved : found ≡ Err Memory → IsSolved asked mps found
+
+-- a text that is put with status 0, and no file is written
+abbrev pub printed : List ℕ → Outcome
+printed text = record { files = []; text = text; exit = Done }
 
 -- what printing a model finds: its canonical text, or no memory
 pub data IsPrinted (mps : MpsModel) (found : Result Outcome Failure) : Type 0 where
-  Canonical : found ≡ Ok (Printed (canonical_text mps)) → IsPrinted mps found
+  Canonical : found ≡ Ok (printed (canonical_text mps)) → IsPrinted mps found
   Unprinted : found ≡ Err Memory → IsPrinted mps found
 
--- what solving finds, of the model of the file that is asked for
-abbrev pub IsSolvedFile : SolveJob → ShelfState → ShelfState → Result Outcome Failure → Type 0
-IsSolvedFile asked old new found =
-    IsFileJob (IsSolved asked.tune asked.default_upper) old new asked.model found
+-- What solving comes to: it is found by one read of the file that is asked for, and the files of
+-- what was found are written.
+pub record IsSolvedFile (asked : SolveJob) (old new : ShelfState)
+    (ended : Result Outcome Failure) : Type 0 where
+  pub between : ShelfState
+  pub found : Result Outcome Failure
+  pub solved : IsFileJob (IsSolved asked) old between asked.model found
+  pub written : IsWritten found between new ended
 
 -- what printing a sample model finds, without a call of the shelf
 pub record IsPrintedSample (number : ℕ) (old new : ShelfState)

@@ -7,9 +7,8 @@ use Rattle.xsearch.specs.Refusals.{words_refusal, length_refusal, mps_refusal, m
 use Rattle.plain_tasks.specs.declared.answer.Status.{Status}
 use Rattle.plain_tasks.specs.declared.answer.Status.TheVariants as search
 use Rattle.xsearch.specs.declared.outcome.Outcome.{Outcome}
-use Rattle.xsearch.specs.declared.outcome.Outcome.TheVariants.{Answered, Printed}
 use Rattle.xsearch.specs.declared.outcome.Failure.{Failure}
-use Rattle.xsearch.specs.declared.outcome.Failure.TheVariants.{Words, Length, Mps, Model, ReadFailed, Memory}
+use Rattle.xsearch.specs.declared.outcome.Failure.TheVariants.{Words, Length, Mps, Model, ReadFailed, WriteFailed, Memory}
 use Rattle.xsearch.specs.declared.status.ExitStatus.{ExitStatus}
 use Rattle.xsearch.specs.declared.status.ExitStatus.TheVariants.{Done, WorkLimit, StoreLimit, RefusedWords, RefusedInput, ShelfFailed, SinkFailed, NoMemory}
 
@@ -63,16 +62,19 @@ exit_of search.Infeasible = Done
 exit_of search.StoreLimit = StoreLimit
 exit_of search.WorkLimit = WorkLimit
 
--- how a run ends, by what was found
-abbrev pub EndsAs : Result Outcome Failure → SinkState → SinkState → ExitStatus → Type 0
-EndsAs (Ok (Answered answer)) old new status =
-    IsPut old new answer.text (exit_of answer.status) status
-EndsAs (Ok (Printed text)) old new status = IsPut old new text Done status
-EndsAs (Err Words) old new status = IsPut old new words_refusal RefusedWords status
-EndsAs (Err Length) old new status = IsPut old new length_refusal RefusedInput status
-EndsAs (Err (Mps line kind)) old new status =
+-- how a run ends that fails so: by one refusal line, or with nothing put
+abbrev pub FailsAs : Failure → SinkState → SinkState → ExitStatus → Type 0
+FailsAs Words old new status = IsPut old new words_refusal RefusedWords status
+FailsAs Length old new status = IsPut old new length_refusal RefusedInput status
+FailsAs (Mps line kind) old new status =
     IsPut old new (mps_refusal line (kind_number kind)) RefusedInput status
-EndsAs (Err (Model reason)) old new status =
+FailsAs (Model reason) old new status =
     IsPut old new (model_refusal (kind_of reason) (index_of reason)) RefusedInput status
-EndsAs (Err ReadFailed) old new status = IsSilent old new ShelfFailed status
-EndsAs (Err Memory) old new status = IsSilent old new NoMemory status
+FailsAs ReadFailed old new status = IsSilent old new ShelfFailed status
+FailsAs (WriteFailed place) old new status = IsSilent old new ShelfFailed status
+FailsAs Memory old new status = IsSilent old new NoMemory status
+
+-- how a run ends, by what it came to
+abbrev pub EndsAs : Result Outcome Failure → SinkState → SinkState → ExitStatus → Type 0
+EndsAs (Ok outcome) old new status = IsPut old new outcome.text outcome.exit status
+EndsAs (Err failure) old new status = FailsAs failure old new status

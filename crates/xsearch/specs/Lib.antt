@@ -7,3 +7,4 @@ pub mod Refusals
 pub mod Runs
 pub mod Searches
 pub mod Shelves
+pub mod Writes

@@ -8,7 +8,7 @@ use Rattle.xsearch_words.specs.Shelf.{HasNoFault, ShelfState}
 use Rattle.xsearch.specs.Shelves.{IsFile, IsLongFile, IsOneRead}
 use Rattle.xsearch.specs.declared.outcome.Outcome.{Outcome}
 use Rattle.xsearch.specs.declared.outcome.Failure.{Failure}
-use Rattle.xsearch.specs.declared.outcome.Failure.TheVariants.{Words, Length, Mps, Model, ReadFailed, Memory}
+use Rattle.xsearch.specs.declared.outcome.Failure.TheVariants.{Words, Length, Mps, Model, ReadFailed, WriteFailed, Memory}
 
 -- the file of this name reads as this model
 pub record IsModelFile (shelf : ShelfState) (name : List ℕ) (mps : MpsModel) : Type 0 where
@@ -31,6 +31,7 @@ IsFileFailure old new name Length = IsLongFile old name
 IsFileFailure old new name (Mps line kind) = IsRefusedFile old name line kind
 IsFileFailure old new name (Model reason) = ⊥
 IsFileFailure old new name ReadFailed = HasFailed old.faults new.faults new.last (failed_read name)
+IsFileFailure old new name (WriteFailed place) = ⊥
 IsFileFailure old new name Memory = Unit {0}
 
 -- what was found comes of the model that the file of this name reads as

@@ -1,9 +1,12 @@
--- The search that words set: the machine's, with so many slots. Who asks only whether an answer is true needn't read it.
+-- The search that words set: the machine's, with so many slots. Who asks only whether an answer is
+-- true needn't read it.
 use Rattle.ip_core.specs.declared.model.ModelParts.{ModelParts}
+use Rattle.node_pool.specs.declared.settings.SearchSettings.{SearchSettings}
 use Rattle.plain_tasks.specs.Answers.{answer_of}
 use Rattle.plain_tasks.specs.Rules.{rules}
 use Rattle.plain_tasks.specs.declared.answer.Answer.{Answer}
 use Rattle.stamp_machine.specs.Machine.{history}
+use Rattle.stamp_machine.specs.declared.history.History.{History}
 use Rattle.stamp_machine.specs.declared.limits.Limits.{Limits}
 use Rattle.xsearch_words.specs.declared.tune.Tune.{Tune}
 
@@ -11,6 +14,14 @@ use Rattle.xsearch_words.specs.declared.tune.Tune.{Tune}
 abbrev pub limits_of : Tune → Limits
 limits_of tune = record { slots = tune.tasks; work = tune.work; store = tune.store }
 
--- the answer of the machine's history of the plain search: how it ended, and the first found point of least value
+-- the switches that are set
+abbrev pub settings_of : Tune → SearchSettings
+settings_of tune = record { cuts = tune.cuts; heuristics = tune.heuristics }
+
+-- the machine's history of the plain search
+abbrev pub machine_history : ModelParts → Tune → History
+machine_history m tune = history (rules m) (limits_of tune)
+
+-- its answer: how it ended, and the first found point of least value
 abbrev pub machine_answer : ModelParts → Tune → Answer
-machine_answer m tune = answer_of m (history (rules m) (limits_of tune)).entries
+machine_answer m tune = answer_of m (machine_history m tune).entries

@@ -1,5 +1,5 @@
 ghost use Rattle.std.specs.Prelude.{◌≡◌, ◌++◌, length, IfOk, OnOk};
-ghost use Rattle.xsearch.specs.Answer.{HasOneEach, answer_text as answer_text_of, column_line, column_lines, objective_of, objective_line as objective_line_of, point_text};
+ghost use Rattle.xsearch.specs.Answer.{HasOneEach, answer_text as answer_text_of, column_line, column_lines, objective_of, objective_line as objective_line_of, point_text, status_word as status_word_of};
 
 use ip_core::{Model, Name, OutOfMemory, Text, decimal};
 use itoa::Buffer;
@@ -29,6 +29,18 @@ pub fn answer_text(alloc: Global, model: &Model, answer: &Answer) -> Result<Text
         }
     }
     Ok(text)
+}
+
+/// The word of a status.
+pub fn status_word(status: Status) -> &'static [u8]
+    ensures { result.now ≡ status_word_of status }
+{
+    match status {
+        Status::Optimal => b"optimal",
+        Status::Infeasible => b"infeasible",
+        Status::StoreLimit => b"storelimit",
+        Status::WorkLimit => b"worklimit",
+    }
 }
 
 fn append_point(

@@ -2,6 +2,7 @@
 #![tactic(auto)]
 
 mod answer;
+mod files;
 mod generate;
 mod model_file;
 mod outcome;

@@ -1,26 +1,20 @@
-use ip_core::Text;
+use crate::status::ExitStatus;
+use ip_core::{List, Text};
 use mps_read::MpsKind;
-use plain_tasks::Status;
 use thiserror::Error;
 use width_admit::Refusal;
+use xsearch_words::OutputFile;
 
-/// The answer of a search as it is printed: how the search ended, and the text.
+/// What a command comes to where nothing fails: the files that it writes, in their order, then the
+/// text that it puts, and the status of a run that does both.
 #[derive(Debug, Drop)]
-pub struct PrintedAnswer {
-    pub status: Status,
+pub struct Outcome {
+    pub files: List<OutputFile>,
     pub text: Text,
+    pub exit: ExitStatus,
 }
 
-/// What a command puts where nothing fails.
-#[derive(Debug, Drop)]
-pub enum Outcome {
-    /// The answer of a search.
-    Answered(PrintedAnswer),
-    /// A text that no search is needed for.
-    Printed(Text),
-}
-
-/// Why a command has no text of its own.
+/// Why a command doesn't come to that.
 #[derive(Clone, Copy, Debug, PartialEq, Eq, Error)]
 pub enum Failure {
     /// The words ask nothing.
@@ -38,6 +32,9 @@ pub enum Failure {
     /// A read failed.
     #[error("a file could not be read")]
     ReadFailed,
+    /// The write of the file at this place among those of the outcome failed.
+    #[error("file {place} could not be written")]
+    WriteFailed { place: usize },
     /// Memory could not be had.
     #[error("out of memory")]
     Memory,

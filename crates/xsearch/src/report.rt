@@ -1,42 +1,38 @@
-ghost use Rattle.std.specs.Prelude.{◌≡◌, Err};
+ghost use Rattle.std.specs.Prelude.{◌≡◌};
 ghost use Rattle.mps_read.specs.KindNumbers.{kind_number};
 ghost use Rattle.width_admit.specs.KindNumbers.{index_of, kind_of};
-ghost use Rattle.xsearch.specs.Endings.{EndsAs, IsPut};
+ghost use Rattle.xsearch.specs.Endings.{EndsAs, FailsAs, IsPut};
 ghost use Rattle.xsearch.specs.Runs.{Ends};
 ghost use Rattle.xsearch.specs.Refusals.{model_refusal as model_refusal_of, mps_refusal as mps_refusal_of};
 
 use crate::outcome::{Failure, Outcome};
 use crate::refusal::{model_refusal, mps_refusal};
-use crate::status::{ExitStatus, exit_code, exit_status};
+use crate::status::{ExitStatus, exit_code};
 use ip_core::OutOfMemory;
 use mps_read::MpsKind;
 use std::alloc::Global;
 use width_admit::Refusal;
 use xsearch_words::{Sink, WriteError};
 
-/// Puts what was found, and answers the exit status.
-pub fn finish<O: Sink>(alloc: Global, found: Result<Outcome, Failure>, out: &mut O) -> u8
-    ensures { Ends (λ f. f ≡ found) (O.state out.old) (O.state out.new) result }
+/// Puts what a command came to, and answers the exit status.
+pub fn finish<O: Sink>(alloc: Global, ended: Result<Outcome, Failure>, out: &mut O) -> u8
+    ensures { Ends (λ e. e ≡ ended) (O.state out.old) (O.state out.new) result }
 {
-    exit_code(report(alloc, found, out))
+    exit_code(report(alloc, ended, out))
 }
 
-/// Puts what was found: the text of the command, one refusal line, or nothing.
-fn report<O: Sink>(alloc: Global, found: Result<Outcome, Failure>, out: &mut O) -> ExitStatus
-    ensures { EndsAs found (O.state out.old) (O.state out.new) result }
+/// Puts what a command came to: its text, one refusal line, or nothing.
+fn report<O: Sink>(alloc: Global, ended: Result<Outcome, Failure>, out: &mut O) -> ExitStatus
+    ensures { EndsAs ended (O.state out.old) (O.state out.new) result }
 {
-    match found {
-        Ok(Outcome::Answered(answer)) => {
-            let meant = exit_status(answer.status);
-            put(alloc, out, answer.text.as_slice(), meant)
-        }
-        Ok(Outcome::Printed(text)) => put(alloc, out, text.as_slice(), ExitStatus::Done),
+    match ended {
+        Ok(outcome) => put(alloc, out, outcome.text.as_slice(), outcome.exit),
         Err(failure) => report_failure(alloc, failure, out),
     }
 }
 
 fn report_failure<O: Sink>(alloc: Global, failure: Failure, out: &mut O) -> ExitStatus
-    ensures { EndsAs (Err failure) (O.state out.old) (O.state out.new) result }
+    ensures { FailsAs failure (O.state out.old) (O.state out.new) result }
 {
     match failure {
         Failure::Words => put(alloc, out, b"refused words\n", ExitStatus::RefusedWords),
@@ -44,6 +40,7 @@ fn report_failure<O: Sink>(alloc: Global, failure: Failure, out: &mut O) -> Exit
         Failure::Mps { line, kind } => put_mps_refusal(alloc, out, line, kind),
         Failure::Model(error) => put_model_refusal(alloc, out, error),
         Failure::ReadFailed => ExitStatus::ShelfFailed,
+        Failure::WriteFailed { .. } => ExitStatus::ShelfFailed,
         Failure::Memory => ExitStatus::NoMemory,
     }
 }

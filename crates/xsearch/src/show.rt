@@ -2,13 +2,14 @@ ghost use Rattle.std.specs.Prelude.{◌≡◌};
 ghost use Rattle.mps_model.specs.MpsModels.{IsMpsModel};
 ghost use Rattle.xsearch.specs.Causes.{IsCausedBy, IsPrinted};
 ghost use Rattle.xsearch.specs.ModelFiles.{IsFileJob};
-ghost use Rattle.xsearch.specs.Runs.{Runs};
+ghost use Rattle.xsearch.specs.Runs.{Ends};
 ghost use Rattle.xsearch_words.specs.declared.job.Job.TheVariants.{Show};
 
 use crate::model_file::read_model;
 use crate::outcome::{Failure, Outcome};
 use crate::report::finish;
-use ip_core::{OutOfMemory, Text};
+use crate::status::ExitStatus;
+use ip_core::{List, OutOfMemory, Text};
 use mps_read::{MpsModel, print};
 use std::alloc::Global;
 use xsearch_words::{Shelf, Sink};
@@ -24,14 +25,15 @@ pub fn show_command<S: Shelf, O: Sink>(
     shelf: &mut S,
     out: &mut O,
 ) -> u8
-    ensures { Runs (IsCausedBy (Show model.now) (S.state shelf.old) (S.state shelf.new))
-        (S.state shelf.old) (S.state shelf.new) (O.state out.old) (O.state out.new) result }
+    ensures { Ends (IsCausedBy (Show model.now) (S.state shelf.old) (S.state shelf.new))
+        (O.state out.old) (O.state out.new) result }
 {
     let found = show_file(alloc, model, shelf);
     finish(alloc, found, out)
 }
 
 /// Prints the model of a file, which isn't admitted: its canonical text, or why there is none.
+#[tactic(auto, using(crate::proofs::Running::of_model, crate::proofs::Running::of_no_model))]
 fn show_file<S: Shelf>(alloc: Global, model: &Text, shelf: &mut S) -> Result<Outcome, Failure>
     ensures { IsFileJob IsPrinted (S.state shelf.old) (S.state shelf.new) model.now result }
 {
@@ -47,7 +49,11 @@ pub fn show_model(alloc: Global, mps: &MpsModel) -> Result<Outcome, Failure>
     ensures { IsPrinted mps.now result }
 {
     match print(alloc, mps) {
-        Ok(text) => Ok(Outcome::Printed(text)),
+        Ok(text) => Ok(Outcome {
+            files: List::new(alloc),
+            text,
+            exit: ExitStatus::Done,
+        }),
         Err(OutOfMemory) => Err(Failure::Memory),
     }
 }

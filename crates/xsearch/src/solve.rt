@@ -5,30 +5,40 @@ ghost use Rattle.stamp_machine.specs.Limits.{AreLimits};
 ghost use Rattle.width_admit.specs.Admission.{IsCause};
 ghost use Rattle.xsearch.specs.Causes.{IsAnswer, IsSolved, IsSolvedFile};
 ghost use Rattle.xsearch.specs.ModelFiles.{IsFileJob, IsSmall};
-ghost use Rattle.xsearch.specs.Runs.{Runs};
-ghost use Rattle.xsearch.specs.Searches.{limits_of as limits_of_tune, machine_answer};
+ghost use Rattle.xsearch.specs.Runs.{Ends};
+ghost use Rattle.xsearch.specs.Searches.{limits_of as limits_of_tune, machine_answer, settings_of as settings_of_tune};
+ghost use Rattle.xsearch.specs.Writes.{solve_files as solve_files_of};
 ghost use Rattle.xsearch_words.specs.Jobs.{IsSolveJob};
 ghost use Rattle.xsearch_words.specs.Tunes.{IsTune};
 
-use crate::answer::answer_text;
+use crate::answer::{answer_text, status_word};
+use crate::files::write_files;
 use crate::model_file::read_model;
-use crate::outcome::{Failure, Outcome, PrintedAnswer};
+use crate::outcome::{Failure, Outcome};
 use crate::report::finish;
-use ip_core::{Model, OutOfMemory, Text};
+use crate::status::exit_status;
+use ip_core::{List, Model, OutOfMemory};
+use log_text::log_text;
 use mps_read::MpsModel;
-use plain_tasks::{PlainSearch, answer_of, answers_are_true, histories_are_read, limits_are_met};
-use stamp_machine::{Limits, run_alone};
+use node_pool::SearchSettings;
+use plain_tasks::{
+    PlainSearch, Status, answer_of, answers_are_true, histories_are_read, limits_are_met,
+};
+use stamp_machine::{History, Limits, run_alone};
 use std::alloc::Global;
 use width_admit::{AdmitError, admit};
-use xsearch_words::{Shelf, Sink, SolveJob, Tune};
+use xsearch_words::{OutputFile, Shelf, Sink, SolveJob, Tune};
 
-/// Does the commands `solve` and `alone`, and answers the exit status: reads the model of a file, admits it, searches it by
-/// as many slots as there are tasks and puts the answer, or the one refusal line. Columns without a high get `default_upper`,
+/// Does the commands `solve` and `alone`, and answers the exit status: reads the model of a file,
+/// admits it, searches it by as many slots as there are tasks, writes the log where it is asked
+/// for, and puts the answer, or the one refusal line. Columns without a high get `default_upper`,
 /// where it is given.
 ///
-/// The status is 0 where the answer is optimal or infeasible, 3 where the limit on counted work ended the search and 4 where
-/// the store of a slot did, 5 where the file is too long, a line of it is refused or its model isn't admitted, 6 where the
-/// read failed, 7 where the put failed, and 8 where memory could not be had.
+/// The status is 0 where the answer is optimal or infeasible, 3 where the limit on counted work
+/// ended the search and 4 where the store of a slot did, 5 where the file is too long, a line of it
+/// is refused or its model isn't admitted, 6 where the read or the write failed, 7 where the put
+/// failed, and 8 where memory could not be had. The log is whole after 0, 3, 4 and 7. After 6 it
+/// may hold a front of its text, and after 8 it is whole or as before.
 pub fn solve_alone<S: Shelf, O: Sink>(
     alloc: Global,
     job: &SolveJob,
@@ -36,60 +46,46 @@ pub fn solve_alone<S: Shelf, O: Sink>(
     out: &mut O,
 ) -> u8
     requires { IsSolveJob job.now }
-    ensures { Runs (IsSolvedFile job.now (S.state shelf.old) (S.state shelf.new))
-        (S.state shelf.old) (S.state shelf.new) (O.state out.old) (O.state out.new) result }
+    ensures { Ends (IsSolvedFile job.now (S.state shelf.old) (S.state shelf.new))
+        (O.state out.old) (O.state out.new) result }
 {
-    let found = solve_file(alloc, &job.model, &job.tune, job.default_upper, shelf);
-    finish(alloc, found, out)
+    let found = solve_file(alloc, job, shelf);
+    let ended = write_files(alloc, found, shelf);
+    finish(alloc, ended, out)
 }
 
 /// Solves the model of a file: its answer, or why there is none.
-fn solve_file<S: Shelf>(
-    alloc: Global,
-    model: &Text,
-    tune: &Tune,
-    default_upper: Option<u32>,
-    shelf: &mut S,
-) -> Result<Outcome, Failure>
-    requires { IsTune tune.now }
-    ensures { IsFileJob (IsSolved tune.now default_upper)
-        (S.state shelf.old) (S.state shelf.new) model.now result }
+#[tactic(auto, using(crate::proofs::Running::of_model, crate::proofs::Running::of_no_model))]
+fn solve_file<S: Shelf>(alloc: Global, job: &SolveJob, shelf: &mut S) -> Result<Outcome, Failure>
+    requires { IsTune job.now.tune }
+    ensures { IsFileJob (IsSolved job.now)
+        (S.state shelf.old) (S.state shelf.new) job.now.model result }
 {
-    match read_model(alloc, model, shelf) {
-        Ok(mps) => solve_model(alloc, &mps, tune, default_upper),
+    match read_model(alloc, &job.model, shelf) {
+        Ok(mps) => solve_model(alloc, &mps, job),
         Err(failure) => Err(failure),
     }
 }
 
-fn solve_model(
-    alloc: Global,
-    mps: &MpsModel,
-    tune: &Tune,
-    default_upper: Option<u32>,
-) -> Result<Outcome, Failure>
+fn solve_model(alloc: Global, mps: &MpsModel, job: &SolveJob) -> Result<Outcome, Failure>
     requires kept { IsMpsModel mps.now }
     requires small { IsSmall mps.now }
-    requires tune { IsTune tune.now }
-    ensures { IsSolved tune.now default_upper mps.now result }
+    requires tune { IsTune job.now.tune }
+    ensures { IsSolved job.now mps.now result }
 {
-    match admit(alloc, mps, default_upper) {
-        Ok(model) => match answer(alloc, model, tune) {
-            Ok(answer) => Ok(Outcome::Answered(answer)),
+    match admit(alloc, mps, job.default_upper) {
+        Ok(model) => match answer(alloc, model, job) {
+            Ok(outcome) => Ok(outcome),
             Err(OutOfMemory) => Err(Failure::Memory),
         },
-        Err(error) => refuse(mps, tune, default_upper, error),
+        Err(error) => refuse(mps, job, error),
     }
 }
 
 /// What becomes of a model that isn't admitted.
-fn refuse(
-    mps: &MpsModel,
-    tune: &Tune,
-    default_upper: Option<u32>,
-    error: AdmitError,
-) -> Result<Outcome, Failure>
-    requires { IsCause mps.now default_upper error }
-    ensures { IsSolved tune.now default_upper mps.now result }
+fn refuse(mps: &MpsModel, job: &SolveJob, error: AdmitError) -> Result<Outcome, Failure>
+    requires { IsCause mps.now job.now.default_upper error }
+    ensures { IsSolved job.now mps.now result }
 {
     match error.refusal() {
         Some(refusal) => Err(Failure::Model(refusal)),
@@ -97,24 +93,51 @@ fn refuse(
     }
 }
 
-/// Lets the slots search the model, and prints the answer of their history.
+/// Lets the slots search the model, and makes the text and the files of their history.
 #[tactic(auto, using(crate::proofs::TrueAnswers::one_each))]
-fn answer(alloc: Global, model: Model, tune: &Tune) -> Result<PrintedAnswer, OutOfMemory>
-    requires { IsTune tune.now }
-    ensures { IfOk result (λ print. IsAnswer model tune.now (machine_answer model tune.now) print) }
+fn answer(alloc: Global, model: Model, job: &SolveJob) -> Result<Outcome, OutOfMemory>
+    requires { IsTune job.now.tune }
+    ensures { IfOk result (λ outcome.
+        IsAnswer model job.now (machine_answer model job.now.tune) outcome) }
 {
     let search = PlainSearch::of(model);
-    let limits = limits_of(tune);
+    let limits = limits_of(&job.tune);
     let history = run_alone(alloc, &search, &limits)?;
     histories_are_read(&search, &limits);
     answers_are_true(&search, &limits);
     limits_are_met(&search, &limits);
     let answer = answer_of(alloc, search.model(), &history)?;
     let text = answer_text(alloc, search.model(), &answer)?;
-    Ok(PrintedAnswer {
-        status: answer.status,
+    let files = solve_files(alloc, job, &history, answer.status)?;
+    Ok(Outcome {
+        files,
         text,
+        exit: exit_status(answer.status),
     })
+}
+
+/// The files that are asked for, in their order: the log of the history.
+fn solve_files(
+    alloc: Global,
+    job: &SolveJob,
+    history: &History,
+    status: Status,
+) -> Result<List<OutputFile>, OutOfMemory>
+    requires { IsTune job.now.tune }
+    ensures { IfOk result (λ files. files ≡ solve_files_of job.now history.now status) }
+{
+    let mut files = List::new(alloc);
+    let Some(name) = &job.log else {
+        return Ok(files);
+    };
+    let limits = limits_of(&job.tune);
+    let settings = settings_of(&job.tune);
+    let text = log_text(alloc, &limits, settings, history, status_word(status))?;
+    files.push(OutputFile {
+        name: name.copy(alloc)?,
+        text,
+    })?;
+    Ok(files)
 }
 
 /// A slot for each task, each with the limits that are set.
@@ -127,5 +150,15 @@ fn limits_of(tune: &Tune) -> Limits
         slots: tune.tasks,
         work: tune.work,
         store: tune.store,
+    }
+}
+
+/// The switches that are set.
+fn settings_of(tune: &Tune) -> SearchSettings
+    ensures { result ≡ settings_of_tune tune.now }
+{
+    SearchSettings {
+        cuts: tune.cuts,
+        heuristics: tune.heuristics,
     }
 }

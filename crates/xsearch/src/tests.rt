@@ -140,7 +140,7 @@ fn first_failure(alloc: Global, cases: &[Case]) -> Result<Option<usize>, OutOfMe
     Ok(None)
 }
 
-const CASES: [Case; 25] = [
+const CASES: [Case; 26] = [
     Case {
         words: "solve m",
         model: ONE,
@@ -291,6 +291,12 @@ const CASES: [Case; 25] = [
         status: 2,
         output: b"refused words\n",
     },
+    Case {
+        words: "solve m --log=m",
+        model: ONE,
+        status: 2,
+        output: b"refused words\n",
+    },
 ];
 
 #[test]
@@ -386,31 +392,118 @@ fn a_sample_model(rt: HostRuntime) -> Result<(), Fail> {
     Ok(())
 }
 
-/// Whether a run ends so over a shelf and a sink of which these calls fail: its status, what is output, and the counts of
-/// faults.
-fn ends(
-    alloc: Global,
-    reads: &[u64],
-    puts: &[u64],
+/// Words over a file `m`, a shelf and a sink of which these calls fail, each after ten bytes, the
+/// exit status, what is output, the file `l` afterwards, the last fault of the shelf (whether it is
+/// a write, and of which name), and the counts of faults.
+struct Broken {
+    words: &'static str,
+    shelf_calls: &'static [u64],
+    puts: &'static [u64],
     status: u8,
-    output: &[u8],
+    output: &'static [u8],
+    log: Option<&'static [u8]>,
+    fault: Option<(bool, &'static [u8])>,
     faults: (u64, u64),
-) -> Result<bool, OutOfMemory> {
-    let mut shelf = MemoryShelf::new(alloc, numbers(alloc, reads)?, 0);
+}
+
+const LOG_WITHOUT_WORK: &[u8] =
+    b"xsearch log 1\ntasks 1 work 0 store 4194304 cuts no heuristics no\nend 0 0\nstatus worklimit\n";
+
+const BROKEN: [Broken; 6] = [
+    Broken {
+        words: "solve m",
+        shelf_calls: &[1],
+        puts: &[],
+        status: 6,
+        output: b"",
+        log: None,
+        fault: Some((false, b"m")),
+        faults: (1, 0),
+    },
+    Broken {
+        words: "solve m",
+        shelf_calls: &[2],
+        puts: &[1],
+        status: 7,
+        output: b"status opt",
+        log: None,
+        fault: None,
+        faults: (0, 1),
+    },
+    Broken {
+        words: "solve m --log=l",
+        shelf_calls: &[1],
+        puts: &[],
+        status: 6,
+        output: b"",
+        log: None,
+        fault: Some((false, b"m")),
+        faults: (1, 0),
+    },
+    Broken {
+        words: "solve m --log=l",
+        shelf_calls: &[2],
+        puts: &[],
+        status: 6,
+        output: b"",
+        log: Some(b"xsearch lo"),
+        fault: Some((true, b"l")),
+        faults: (1, 0),
+    },
+    Broken {
+        words: "solve m --tasks=1 --work=0 --log=l",
+        shelf_calls: &[3],
+        puts: &[1],
+        status: 7,
+        output: b"status wor",
+        log: Some(LOG_WITHOUT_WORK),
+        fault: None,
+        faults: (0, 1),
+    },
+    Broken {
+        words: "alone m --tasks=1 --work=0 --log=l",
+        shelf_calls: &[3],
+        puts: &[2],
+        status: 3,
+        output: b"status worklimit\nobjective none\n",
+        log: Some(LOG_WITHOUT_WORK),
+        fault: None,
+        faults: (0, 0),
+    },
+];
+
+/// Whether a run over one column ends as is told.
+fn ends_so(alloc: Global, case: &Broken) -> Result<bool, OutOfMemory> {
+    let mut shelf = MemoryShelf::new(alloc, numbers(alloc, case.shelf_calls)?, 10);
     shelf.set(text(alloc, b"m")?, List::of(Vec::from_slice(alloc, ONE)?))?;
-    let mut out = MemorySink::new(alloc, numbers(alloc, puts)?, 10);
-    let words = words(alloc, "solve m")?;
+    let mut out = MemorySink::new(alloc, numbers(alloc, case.puts)?, 10);
+    let words = words(alloc, case.words)?;
     let code = run(alloc, words.as_slice(), &mut shelf, &mut out);
-    Ok(code == status && out.bytes() == output && (shelf.faults(), out.faults()) == faults)
+    let fault = shelf
+        .last_fault()
+        .map(|fault| (fault.write, fault.name.as_slice()));
+    Ok(
+        code == case.status
+            && out.bytes() == case.output
+            && shelf.file(&text(alloc, b"l")?) == case.log
+            && fault == case.fault
+            && (shelf.faults(), out.faults()) == case.faults,
+    )
+}
+
+/// The number of the first case that ends otherwise.
+fn first_other_end(alloc: Global, cases: &[Broken]) -> Result<Option<usize>, OutOfMemory> {
+    for i in 0..cases.len() {
+        if !ends_so(alloc, &cases[i])? {
+            return Ok(Some(i));
+        }
+    }
+    Ok(None)
 }
 
 #[test]
 fn failing_calls(rt: HostRuntime) -> Result<(), Fail> {
-    let alloc = rt.alloc();
-    let answer = b"status optimal\nobjective 0\nx = 0\n";
-    assert!(rt; ends(alloc, &[1], &[], 6, b"", (1, 0))?);
-    assert!(rt; ends(alloc, &[], &[1], 7, b"status opt", (0, 1))?);
-    assert!(rt; ends(alloc, &[2], &[2], 0, answer, (0, 0))?);
+    assert_eq!(rt; first_other_end(rt.alloc(), &BROKEN)?, None);
     Ok(())
 }
 

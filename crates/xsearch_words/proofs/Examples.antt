@@ -1,12 +1,20 @@
 -- Worked rows of the words.
-use Rattle.std.proofs.Common.{ℕ, ◌≡◌, List, [], ◌∷◌, Option, Some, None, codes, refl}
+use Rattle.std.proofs.Common.{ℕ, ◌≡◌, false, List, [], ◌∷◌, Option, Some, None, codes, refl}
 use Rattle.xsearch_words.specs.Jobs.{job}
 use Rattle.xsearch_words.specs.declared.job.Job.{Job}
 use Rattle.xsearch_words.specs.declared.job.Job.TheVariants.{Solve, Alone, Show, Gen}
 use Rattle.xsearch_words.specs.declared.job.SolveJob.{SolveJob}
 
 abbrev search : List ℕ → ℕ → ℕ → ℕ → Option ℕ → SolveJob
-search model tasks work store default_upper = record { model = model; tune = record { tasks = tasks; work = work; store = store }; default_upper = default_upper }
+search model tasks work store default_upper = record {
+  model = model;
+  log = None;
+  tune = record { tasks = tasks; work = work; store = store; cuts = false; heuristics = false };
+  default_upper = default_upper;
+}
+
+abbrev with_log : List ℕ → SolveJob → SolveJob
+with_log name asked = record asked { log = Some name }
 
 abbrev solve : List ℕ → ℕ → Option ℕ → Option Job
 solve model work default_upper = Some (Solve (search model 4 work 1048576 default_upper))
@@ -103,6 +111,27 @@ store_of_four_tasks = refl
 
 alone : job (codes "alone" ∷ codes "m1" ∷ codes "--default-upper=7" ∷ []) ≡ Some (Alone (search (codes "m1") 4 200000000 1048576 (Some 7)))
 alone = refl
+
+log : job (codes "solve" ∷ codes "--log=l" ∷ codes "m3" ∷ []) ≡ Some (Solve (with_log (codes "l") (search (codes "m3") 4 200000000 1048576 None)))
+log = refl
+
+log_with_equals : job (codes "alone" ∷ codes "m3" ∷ codes "--log=a=b" ∷ []) ≡ Some (Alone (with_log (codes "a=b") (search (codes "m3") 4 200000000 1048576 None)))
+log_with_equals = refl
+
+log_named_as_the_model : job (codes "solve" ∷ codes "m3" ∷ codes "--log=m3" ∷ []) ≡ None
+log_named_as_the_model = refl
+
+empty_log : job (codes "solve" ∷ codes "m3" ∷ codes "--log=" ∷ []) ≡ None
+empty_log = refl
+
+log_with_a_dash : job (codes "solve" ∷ codes "m3" ∷ codes "--log=-l" ∷ []) ≡ None
+log_with_a_dash = refl
+
+two_logs : job (codes "solve" ∷ codes "m3" ∷ codes "--log=a" ∷ codes "--log=b" ∷ []) ≡ None
+two_logs = refl
+
+log_of_another : job (codes "show" ∷ codes "m" ∷ codes "--log=l" ∷ []) ≡ None
+log_of_another = refl
 
 key_to_come : job (codes "solve" ∷ codes "m" ∷ codes "--threads=2" ∷ []) ≡ None
 key_to_come = refl

@@ -3,7 +3,7 @@ use Rattle.std.specs.Prelude.{ℕ, List, [], ◌∷◌, codes, Option, Some, Non
 use Rattle.xsearch_words.specs.declared.command.Command.{Command}
 use Rattle.xsearch_words.specs.declared.command.Command.TheVariants.{Solve, Alone, Show, Gen}
 use Rattle.xsearch_words.specs.declared.command.Key.{Key}
-use Rattle.xsearch_words.specs.declared.command.Key.TheVariants.{Tasks, Work, Store, DefaultUpper}
+use Rattle.xsearch_words.specs.declared.command.Key.TheVariants.{Tasks, Work, Store, DefaultUpper, Log}
 
 -- the command of a word
 abbrev pub command_of : List ℕ → Option Command
@@ -23,7 +23,7 @@ name_count Gen = 1
 
 -- the keys of a command that searches
 abbrev pub search_keys : List Key
-search_keys = Tasks ∷ Work ∷ Store ∷ DefaultUpper ∷ []
+search_keys = Tasks ∷ Work ∷ Store ∷ DefaultUpper ∷ Log ∷ []
 
 -- the keys of the command
 abbrev pub keys_of : Command → List Key
@@ -38,3 +38,4 @@ front Tasks = codes "--tasks="
 front Work = codes "--work="
 front Store = codes "--store="
 front DefaultUpper = codes "--default-upper="
+front Log = codes "--log="

@@ -1,5 +1,5 @@
 -- The form of the words that follow a command: names and options.
-use Rattle.std.specs.Prelude.{ℕ, Bool, false, not, ◌||◌, ◌&&◌, ◌==◌, nat_le, nat_eq, if◌then◌else◌, List, [], ◌∷◌, length, drop, Option, Some, None, is_some, filter, filter_map}
+use Rattle.std.specs.Prelude.{ℕ, ◌≢◌, IsTrue, bytes_eq, Bool, false, not, ◌||◌, ◌&&◌, ◌==◌, nat_le, nat_eq, if◌then◌else◌, List, [], ◌∷◌, length, drop, Option, Some, None, is_some, filter, filter_map}
 use Rattle.std.specs.List.{list_all, list_any, starts_with, slice_get}
 use Rattle.xsearch_words.specs.Commands.{name_count, keys_of, front}
 use Rattle.xsearch_words.specs.declared.command.Command.{Command}
@@ -9,6 +9,18 @@ use Rattle.xsearch_words.specs.declared.command.Key.{Key}
 abbrev pub is_name : List ℕ → Bool
 is_name [] = false
 is_name (b ∷ bs) = not (b == 45)
+
+-- a name that isn't this one
+pub record IsOtherName (taken name : List ℕ) : Type 0 where
+  pub is : IsTrue (is_name name)
+  pub differs : name ≢ taken
+
+-- The name of an option's value, which isn't to be this one, if the option is given. None where the
+-- value is no such name.
+abbrev pub other_name : List ℕ → Option (List ℕ) → Option (Option (List ℕ))
+other_name taken None = Some None
+other_name taken (Some value) =
+    if is_name value && not (bytes_eq value taken) then Some (Some value) else None
 
 -- the names among the words, in order
 abbrev pub names : List (List ℕ) → List (List ℕ)

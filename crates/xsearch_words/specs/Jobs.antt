@@ -1,26 +1,28 @@
 -- What the words of the command line ask.
 use Rattle.std.specs.Prelude.{ℕ, ◌≡◌, ◌≤◌, ◌-◌, ◌^◌, ⊤, List, [], ◌∷◌, Option, Some, None, option_map, if◌then◌else◌, IfSome, IsTrue}
 use Rattle.xsearch_words.specs.Commands.{command_of}
-use Rattle.xsearch_words.specs.Forms.{has_form, is_name, name_at, value}
+use Rattle.xsearch_words.specs.Forms.{IsOtherName, has_form, is_name, name_at, other_name, value}
 use Rattle.xsearch_words.specs.Numbers.{number_between, optional_number}
 use Rattle.xsearch_words.specs.Options.{when_some}
 use Rattle.xsearch_words.specs.Tunes.{IsTune, tune_in}
 use Rattle.xsearch_words.specs.declared.command.Command.{Command}
 use Rattle.xsearch_words.specs.declared.command.Command.TheVariants as command
-use Rattle.xsearch_words.specs.declared.command.Key.TheVariants.{DefaultUpper}
+use Rattle.xsearch_words.specs.declared.command.Key.TheVariants.{DefaultUpper, Log}
 use Rattle.xsearch_words.specs.declared.error.JobError.{JobError}
 use Rattle.xsearch_words.specs.declared.error.JobError.TheVariants.{Words}
 use Rattle.xsearch_words.specs.declared.job.Job.{Job}
 use Rattle.xsearch_words.specs.declared.job.Job.TheVariants.{Solve, Alone, Show, Gen}
 use Rattle.xsearch_words.specs.declared.job.SolveJob.{SolveJob}
 
--- `MODEL [--tasks=N] [--work=N] [--store=N] [--default-upper=N]` after `solve` or `alone`
+-- `MODEL [--tasks=N] [--work=N] [--store=N] [--default-upper=N] [--log=NAME]` after `solve` or
+-- `alone`, with names that differ
 abbrev pub solve_job : List (List ℕ) → Option SolveJob
 solve_job words =
     when_some (name_at 0 words) (λ model.
+    when_some (other_name model (value Log words)) (λ log.
     when_some (tune_in words) (λ tune.
     when_some (optional_number 0 (2 ^ 31) (value DefaultUpper words)) (λ default_upper.
-    Some (record { model = model; tune = tune; default_upper = default_upper }))))
+    Some (record { model = model; log = log; tune = tune; default_upper = default_upper })))))
 
 -- `gen NUMBER`
 abbrev pub gen_number : List (List ℕ) → Option ℕ
@@ -50,6 +52,7 @@ IsJobCause words error = error ≡ Words → job words ≡ None
 -- the limits of what `solve` or `alone` is asked
 pub record IsSolveJob (asked : SolveJob) : Type 0 where
   pub model : IsTrue (is_name asked.model)
+  pub log : IfSome asked.log (IsOtherName asked.model)
   pub tune : IsTune asked.tune
   pub default_upper : IfSome asked.default_upper (λ upper. upper ≤ 2 ^ 31)
 

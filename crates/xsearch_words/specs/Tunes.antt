@@ -1,5 +1,5 @@
 -- How a search is run, and what the words set of it.
-use Rattle.std.specs.Prelude.{ℕ, ◌≤◌, ◌*◌, ◌/◌, ◌^◌, nat_le, if◌then◌else◌, List, Option, Some, None}
+use Rattle.std.specs.Prelude.{ℕ, ◌≡◌, ◌≤◌, ◌*◌, ◌/◌, ◌^◌, false, nat_le, if◌then◌else◌, List, Option, Some, None}
 use Rattle.xsearch_words.specs.Forms.{value}
 use Rattle.xsearch_words.specs.Numbers.{number_or}
 use Rattle.xsearch_words.specs.Options.{when_some}
@@ -13,15 +13,24 @@ pub record IsTune (tune : Tune) : Type 0 where
   pub little_work : tune.work ≤ 10 ^ 12
   pub some_store : 64 ≤ tune.store
   pub small_store : tune.tasks * tune.store ≤ 2 ^ 22
+  pub no_cuts : tune.cuts ≡ false
+  pub no_heuristics : tune.heuristics ≡ false
 
 -- the store of each task where the words give none: the whole store in equal parts, rounded down
 abbrev pub default_store : ℕ → ℕ
 default_store tasks = 2 ^ 22 / tasks
 
--- so many tasks with this work and store for each, where their stores together are at most 2^22
+-- so many tasks with this work and store for each, without cuts and heuristics, where their stores
+-- together are at most 2^22
 abbrev pub tune_of : ℕ → ℕ → ℕ → Option Tune
 tune_of tasks work store = if nat_le (tasks * store) (2 ^ 22)
-    then Some (record { tasks = tasks; work = work; store = store }) else None
+    then Some (record {
+      tasks = tasks;
+      work = work;
+      store = store;
+      cuts = false;
+      heuristics = false;
+    }) else None
 
 -- `[--tasks=N] [--work=N] [--store=N]`
 abbrev pub tune_in : List (List ℕ) → Option Tune

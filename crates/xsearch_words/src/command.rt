@@ -17,6 +17,7 @@ pub(crate) enum Key {
     Work,
     Store,
     DefaultUpper,
+    Log,
 }
 
 impl Command {
@@ -51,9 +52,13 @@ impl Command {
         ensures { result.now ≡ keys_of self }
     {
         match self {
-            Command::Solve | Command::Alone => {
-                &[Key::Tasks, Key::Work, Key::Store, Key::DefaultUpper]
-            }
+            Command::Solve | Command::Alone => &[
+                Key::Tasks,
+                Key::Work,
+                Key::Store,
+                Key::DefaultUpper,
+                Key::Log,
+            ],
             Command::Show | Command::Gen => &[],
         }
     }
@@ -69,6 +74,7 @@ impl Key {
             Key::Work => b"--work=",
             Key::Store => b"--store=",
             Key::DefaultUpper => b"--default-upper=",
+            Key::Log => b"--log=",
         }
     }
 }

@@ -46,7 +46,7 @@ fn gives_value(word: &[u8], key: Key) -> bool
 }
 
 /// Whether the word is a name: it isn't empty and doesn't begin with `-`.
-fn is_name(word: &[u8]) -> bool
+pub(crate) fn is_name(word: &[u8]) -> bool
     ensures { result ≡ is_name_of word.now }
 {
     match word {

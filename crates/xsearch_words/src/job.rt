@@ -1,10 +1,11 @@
 ghost use Rattle.std.specs.Prelude.{◌≡◌, ◌≤◌, ◌^◌, map, IfOk, IfSome, IsTrue, MatchResult};
 ghost use Rattle.std.specs.String.{string_bytes};
 ghost use Rattle.xsearch_words.specs.Jobs.{IsJob, IsJobCause, IsJobOf, IsSolveJob, command_job as command_job_of, gen_number as gen_number_of, solve_job as solve_job_of};
-ghost use Rattle.xsearch_words.specs.Forms.{is_name, name_at as name_at_of};
+ghost use Rattle.xsearch_words.specs.declared.command.Key.TheVariants.{Log};
+ghost use Rattle.xsearch_words.specs.Forms.{IsOtherName, is_name, name_at as name_at_of, other_name as other_name_of, value as value_of};
 
 use crate::command::{Command, Key};
-use crate::form::{has_form, name_at, value};
+use crate::form::{has_form, is_name, name_at, value};
 use crate::number::{number_between, optional_number};
 use crate::tune::tune_in;
 use crate::{JobError, Tune};
@@ -30,8 +31,9 @@ pub enum Job {
 /// What `solve` or `alone` is asked.
 #[derive(Debug, Drop)]
 pub struct SolveJob {
-    /// The name of the model's file.
+    /// The names of the model's file and of the log's, if one is asked for. They differ.
     pub model: Text,
+    pub log: Option<Text>,
     /// How the search is run.
     pub tune: Tune,
     /// The upper bound of each column that has none of its own, at most 2^31, if one is given.
@@ -41,17 +43,17 @@ pub struct SolveJob {
 /// What the words of the command line ask, without the program's name.
 ///
 /// The first word is the command, which is one of `solve MODEL` and `alone MODEL`, both with the
-/// options `--tasks=N`, `--work=N`, `--store=N` and `--default-upper=N`, `show MODEL` and
-/// `gen NUMBER`. Each further word is `--key=value` with a key of the command, at most once each,
-/// or a name: a word that isn't empty and doesn't begin with `-`. There are exactly as many names
-/// as the command has, and options may stand before, between and after them.
+/// options `--tasks=N`, `--work=N`, `--store=N`, `--default-upper=N` and `--log=NAME`,
+/// `show MODEL` and `gen NUMBER`. Each further word is `--key=value` with a key of the command, at
+/// most once each, or a name: a word that isn't empty and doesn't begin with `-`. There are exactly
+/// as many names as the command has, and options may stand before, between and after them.
 ///
 /// A number is 1 to 20 decimal digits within its range: N of `--tasks` is 1 to 64, and 4 without
 /// it; N of `--work` is at most 10^12, and 200,000,000 without it; N of `--store`, in words for
 /// each task, is 64 to 2^22, and without it 2^22 divided by the number of tasks and rounded down;
 /// tasks times store is at most 2^22; N of `--default-upper` is at most 2^31; NUMBER is at most
-/// 2^64 - 1. `Words` is answered exactly where the words ask nothing by these rules, unless memory
-/// runs out.
+/// 2^64 - 1. The NAME of `--log` is a name other than MODEL, byte for byte. `Words` is answered
+/// exactly where the words ask nothing by these rules, unless memory runs out.
 pub fn settings(alloc: Global, words: &[String]) -> Result<Job, JobError>
     ensures answer { MatchResult result (IsJobOf (map string_bytes words.now))
         (IsJobCause (map string_bytes words.now)) }
@@ -96,6 +98,9 @@ fn solve_job(alloc: Global, words: &[String]) -> Result<Option<SolveJob>, OutOfM
     let Some(model) = file_name(alloc, words)? else {
         return Ok(None);
     };
+    let Some(log) = log_name(alloc, model.as_slice(), words)? else {
+        return Ok(None);
+    };
     let Some(tune) = tune_in(words) else {
         return Ok(None);
     };
@@ -104,6 +109,7 @@ fn solve_job(alloc: Global, words: &[String]) -> Result<Option<SolveJob>, OutOfM
     };
     Ok(Some(SolveJob {
         model,
+        log,
         tune,
         default_upper,
     }))
@@ -118,6 +124,25 @@ fn file_name(alloc: Global, words: &[String]) -> Result<Option<Text>, OutOfMemor
         return Ok(None);
     };
     Ok(Some(Text::of(Vec::from_slice(alloc, name)?)))
+}
+
+/// A copy of the log's name, if one is given, or None where it isn't a name or is the model's.
+fn log_name(
+    alloc: Global,
+    model: &[u8],
+    words: &[String],
+) -> Result<Option<Option<Text>>, OutOfMemory>
+    ensures value { IfOk result (λ log.
+        log ≡ other_name_of model.now (value_of Log (map string_bytes words.now))) }
+    ensures name { IfOk result (λ log. IfSome log (λ log. IfSome log (IsOtherName model.now))) }
+{
+    let Some(name) = value(Key::Log, words) else {
+        return Ok(Some(None));
+    };
+    if !is_name(name) || name == model {
+        return Ok(None);
+    }
+    Ok(Some(Some(Text::of(Vec::from_slice(alloc, name)?))))
 }
 
 fn gen_number(words: &[String]) -> Option<u64>

@@ -371,6 +371,8 @@ enum Want {
     Nothing,
     Solve(&'static str, Tune, Option<u32>),
     Alone(&'static str, Tune, Option<u32>),
+    // To solve a model as it is set without options, with a log of this name.
+    Logged(&'static str, &'static str),
     Show(&'static str),
     Gen(u64),
 }
@@ -381,45 +383,59 @@ const PLAIN: Tune = Tune {
     tasks: 4,
     work: 200_000_000,
     store: 1_048_576,
+    cuts: false,
+    heuristics: false,
 };
 
 const LITTLE_WORK: Tune = Tune {
     tasks: 4,
     work: 7,
     store: 1_048_576,
+    cuts: false,
+    heuristics: false,
 };
 
 const MOST_WORK: Tune = Tune {
     tasks: 4,
     work: 1_000_000_000_000,
     store: 1_048_576,
+    cuts: false,
+    heuristics: false,
 };
 
 const THREE_TASKS: Tune = Tune {
     tasks: 3,
     work: 200_000_000,
     store: 1_398_101,
+    cuts: false,
+    heuristics: false,
 };
 
 const ONE_TASK: Tune = Tune {
     tasks: 1,
     work: 200_000_000,
     store: 4_194_304,
+    cuts: false,
+    heuristics: false,
 };
 
 const MOST_TASKS: Tune = Tune {
     tasks: 64,
     work: 200_000_000,
     store: 65_536,
+    cuts: false,
+    heuristics: false,
 };
 
 const LEAST_STORE: Tune = Tune {
     tasks: 64,
     work: 0,
     store: 64,
+    cuts: false,
+    heuristics: false,
 };
 
-const CASES: [Case; 36] = [
+const CASES: [Case; 45] = [
     (&["solve", "m3"], Want::Solve("m3", PLAIN, None)),
     (
         &["solve", "--work=007", "m3"],
@@ -454,6 +470,15 @@ const CASES: [Case; 36] = [
         &["alone", "m1", "--default-upper=7"],
         Want::Alone("m1", PLAIN, Some(7)),
     ),
+    (&["solve", "m3", "--log=l"], Want::Logged("m3", "l")),
+    (&["solve", "--log=a=b", "./m3"], Want::Logged("./m3", "a=b")),
+    (&["solve", "m3", "--log=./m3"], Want::Logged("m3", "./m3")),
+    (&["solve", "m3", "--log=m3"], Want::Nothing),
+    (&["alone", "m3", "--log="], Want::Nothing),
+    (&["alone", "m3", "--log=-l"], Want::Nothing),
+    (&["solve", "m3", "--log"], Want::Nothing),
+    (&["solve", "m3", "--log=a", "--log=b"], Want::Nothing),
+    (&["show", "m", "--log=l"], Want::Nothing),
     (&["show", "m"], Want::Show("m")),
     (&["gen", "01"], Want::Gen(1)),
     (&["gen", "18446744073709551615"], Want::Gen(u64::MAX)),
@@ -496,6 +521,13 @@ fn is_search(job: &SolveJob, model: &str, tune: Tune, default_upper: Option<u32>
         && job.default_upper == default_upper
 }
 
+fn has_log(job: &SolveJob, name: &str) -> bool {
+    match &job.log {
+        Some(log) => log.as_slice() == name.as_bytes(),
+        None => false,
+    }
+}
+
 // Whether the words ask what is wanted.
 fn asks(alloc: Global, case: Case) -> Result<bool, OutOfMemory> {
     let mut words = Vec::new(alloc);
@@ -503,12 +535,15 @@ fn asks(alloc: Global, case: Case) -> Result<bool, OutOfMemory> {
         words.push(String::from_str(alloc, word)?)?;
     }
     Ok(match (settings(alloc, words.as_slice()), case.1) {
-        (Ok(Job::Solve(job)), Want::Solve(model, tune, upper)) => is_search(
-            &job, model, tune, upper,
-        ),
-        (Ok(Job::Alone(job)), Want::Alone(model, tune, upper)) => is_search(
-            &job, model, tune, upper,
-        ),
+        (Ok(Job::Solve(job)), Want::Solve(model, tune, upper)) => {
+            is_search(&job, model, tune, upper) && job.log.is_none()
+        }
+        (Ok(Job::Alone(job)), Want::Alone(model, tune, upper)) => {
+            is_search(&job, model, tune, upper) && job.log.is_none()
+        }
+        (Ok(Job::Solve(job)), Want::Logged(model, log)) => {
+            is_search(&job, model, PLAIN, None) && has_log(&job, log)
+        }
         (Ok(Job::Show(model)), Want::Show(want)) => model.as_slice() == want.as_bytes(),
         (Ok(Job::Gen(number)), Want::Gen(want)) => number == want,
         (Err(JobError::Words), Want::Nothing) => true,

@@ -24,14 +24,17 @@ const MIN_STORE: u64 = 64;
 /// The greatest store of all tasks together, in words.
 const MAX_STORE: u64 = 4_194_304;
 
-/// How a search is run: the number of tasks, and for each its limit on counted work and its store
-/// in words. There are 1 to 64 tasks, the limit is at most 10^12, and a store is 64 words or more,
-/// for all tasks together at most 2^22.
+/// How a search is run: the number of tasks, for each its limit on counted work and its store in
+/// words, and whether it derives cuts and whether it dives for points. There are 1 to 64 tasks, the
+/// limit is at most 10^12, and a store is 64 words or more, for all tasks together at most 2^22.
+/// Neither cuts nor heuristics are there yet.
 #[derive(Clone, Copy, Debug, PartialEq, Eq)]
 pub struct Tune {
     pub tasks: u32,
     pub work: u64,
     pub store: u32,
+    pub cuts: bool,
+    pub heuristics: bool,
 }
 
 impl Tune {
@@ -53,6 +56,8 @@ impl Tune {
             tasks: tasks as u32,
             work,
             store: store as u32,
+            cuts: false,
+            heuristics: false,
         })
     }
 }

@@ -2,7 +2,4 @@ use Rattle.xsearch.proofs.Running.{with_cause}
 use Rattle.xsearch.proofs.show.show_command.Goals as goal
 
 pub returns : goal.returns
-returns g c = record {
-  ends = with_cause _ c.show_file-found.result _ _ _ c.show_file-found.ensures c.finish.ensures;
-  files_stay = c.show_file-found.ensures.read.files;
-}
+returns g c = with_cause _ c.show_file-found.result _ _ _ c.show_file-found.ensures c.finish.ensures

@@ -2,7 +2,9 @@ use Rattle.xsearch.proofs.Running.{with_cause}
 use Rattle.xsearch.proofs.solve.solve_alone.Goals as goal
 
 pub returns : goal.returns
-returns g c = record {
-  ends = with_cause _ c.solve_file-found.result _ _ _ c.solve_file-found.ensures c.finish.ensures;
-  files_stay = c.solve_file-found.ensures.read.files;
-}
+returns g c = with_cause _ c.write_files-ended.result _ _ _ (record {
+  between = _;
+  found = c.solve_file-found.result;
+  solved = c.solve_file-found.ensures;
+  written = c.write_files-ended.ensures;
+}) c.finish.ensures

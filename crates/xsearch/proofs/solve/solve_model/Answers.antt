@@ -7,9 +7,9 @@ pub returns-in-Ok-answer : goal.returns-in-Ok-answer
 returns-in-Ok-answer c = Solved (record {
   m = c.in-Ok.model;
   answer = _;
-  print = c.in-Ok-answer.answer;
+  outcome = c.in-Ok-answer.outcome;
   is = refl;
   admits = c.in-Ok.ensures;
   of_model = c.in-Ok-answer.ensures;
-  of_file = true_of_file c.args.mps.now c.args.default_upper c.in-Ok.model c.requires.kept c.in-Ok.ensures _ c.in-Ok-answer.ensures.truth;
+  of_file = true_of_file c.args.mps.now c.args.job.now.default_upper c.in-Ok.model c.requires.kept c.in-Ok.ensures _ c.in-Ok-answer.ensures.truth;
 })

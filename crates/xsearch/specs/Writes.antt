@@ -1,0 +1,40 @@
+-- The files that a run writes, and what becomes of them.
+use Rattle.std.specs.Prelude.{ℕ, ◌≡◌, List, [], ◌∷◌, Option, Some, None, Result, Ok, Err}
+use Rattle.log_text.specs.Logs.{log_text}
+use Rattle.stamp_machine.specs.declared.history.History.{History}
+use Rattle.plain_tasks.specs.declared.answer.Status.{Status}
+use Rattle.xsearch_words.specs.Outputs.{AreWritten, AreWrittenInPart, IsFailedWrite}
+use Rattle.xsearch_words.specs.Shelf.{ShelfState}
+use Rattle.xsearch_words.specs.declared.job.SolveJob.{SolveJob}
+use Rattle.xsearch_words.specs.declared.output.OutputFile.{OutputFile}
+use Rattle.xsearch.specs.Answer.{status_word}
+use Rattle.xsearch.specs.Searches.{limits_of, settings_of}
+use Rattle.xsearch.specs.declared.outcome.Outcome.{Outcome}
+use Rattle.xsearch.specs.declared.outcome.Failure.{Failure}
+use Rattle.xsearch.specs.declared.outcome.Failure.TheVariants.{WriteFailed, Memory}
+
+-- the file of this text, where it is given a name
+abbrev pub named_file : Option (List ℕ) → List ℕ → List OutputFile
+named_file None text = []
+named_file (Some name) text = record { name = name; text = text } ∷ []
+
+-- the files that solving writes, in their order: the log of the history, where it is asked for
+abbrev pub solve_files : SolveJob → History → Status → List OutputFile
+solve_files asked history status = named_file asked.log
+    (log_text (limits_of asked.tune) (settings_of asked.tune) history (status_word status))
+
+-- the files of what was found
+abbrev pub files_of : Result Outcome Failure → List OutputFile
+files_of (Ok outcome) = outcome.files
+files_of (Err failure) = []
+
+-- What a run comes to by the writes of the files of what was found: to that, where all are whole;
+-- to a failure that names a file's place, where its write failed and those before it are whole; or
+-- to no memory for the write of one, where those before it are whole.
+pub data IsWritten (found : Result Outcome Failure) (old new : ShelfState)
+    (ended : Result Outcome Failure) : Type 0 where
+  Whole : ended ≡ found → AreWritten (files_of found) old new → IsWritten found old new ended
+  Failed : (place : ℕ) → ended ≡ Err (WriteFailed place)
+      → IsFailedWrite place (files_of found) old new → IsWritten found old new ended
+  InPart : ended ≡ Err Memory → AreWrittenInPart (files_of found) old new
+      → IsWritten found old new ended
