@@ -4,7 +4,7 @@ use Rattle.mps_model.specs.declared.model.MpsModel.{MpsModel}
 use Rattle.xsearch.specs.ModelFiles.{IsFileFailure, IsFileJob, IsModelFile, OfModel, NoModel}
 use Rattle.xsearch.specs.Runs.{Ends}
 use Rattle.xsearch.specs.Shelves.{IsOneRead}
-use Rattle.xsearch.specs.Writes.{IsWritten, Whole}
+use Rattle.xsearch.specs.Writes.{IsWritten, AllWritten}
 use Rattle.xsearch_words.proofs.OutputWrites.{none_written}
 use Rattle.xsearch_words.specs.Shelf.{HasNoFault, ShelfState}
 use Rattle.xsearch_words.specs.Sink.{SinkState}
@@ -51,7 +51,7 @@ of_no_model next old new name failure cause read quiet = record {
 
 -- a failure has no files
 pub nothing_to_write : (failure : Failure) (state : ShelfState) → IsWritten (Err failure) state state (Err failure)
-nothing_to_write failure state = Whole refl (none_written state)
+nothing_to_write failure state = AllWritten refl (none_written state)
 
 -- a run that ends with what it came to has its cause
 pub with_cause : (P : Result Outcome Failure → Type 0) (ended : Result Outcome Failure) (old new : SinkState) (code : ℕ) → P ended → Ends (λ e. e ≡ ended) old new code → Ends P old new code

@@ -33,8 +33,8 @@ files_of (Err failure) = []
 -- to no memory for the write of one, where those before it are whole.
 pub data IsWritten (found : Result Outcome Failure) (old new : ShelfState)
     (ended : Result Outcome Failure) : Type 0 where
-  Whole : ended ≡ found → AreWritten (files_of found) old new → IsWritten found old new ended
-  Failed : (place : ℕ) → ended ≡ Err (WriteFailed place)
+  AllWritten : ended ≡ found → AreWritten (files_of found) old new → IsWritten found old new ended
+  OneFailed : (place : ℕ) → ended ≡ Err (WriteFailed place)
       → IsFailedWrite place (files_of found) old new → IsWritten found old new ended
-  InPart : ended ≡ Err Memory → AreWrittenInPart (files_of found) old new
+  OneUnwritten : ended ≡ Err Memory → AreWrittenInPart (files_of found) old new
       → IsWritten found old new ended

@@ -17,6 +17,7 @@ pub struct OutputFile {
 /// `Failed` where the write of the file at this place, counted from 0, failed. The files before it
 /// are then whole, and it may hold a front of its text. `Memory` where memory could not be had:
 /// some first files are then whole. All other files are as before.
+#[tactic(auto, using(crate::proofs::OutputWrites::none_written, crate::proofs::OutputWrites::next_written, crate::proofs::OutputWrites::next_failed, crate::proofs::OutputWrites::next_unwritten))]
 pub fn write_all<S: Shelf>(
     alloc: Global,
     outputs: &[OutputFile],
