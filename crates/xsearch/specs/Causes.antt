@@ -25,9 +25,9 @@ use Rattle.xsearch.specs.declared.outcome.Failure.{Failure}
 use Rattle.xsearch.specs.declared.outcome.Failure.TheVariants.{Words, Model, Memory}
 use Rattle.xsearch.specs.declared.status.ExitStatus.TheVariants.{Done}
 
--- An answer of a model, and what solving the model finds. The answer is that of the machine's search
--- with these tasks and limits. The rest is said of it whatever found it: its status and its text are
--- those of the run, it is true of the model, and a status of a limit has its cause in the slots.
+-- An answer of a model, and what solving the model finds. The answer is that of the machine's
+-- search with these tasks and limits. The rest is said of it whatever found it: its status and text
+-- are those of the run, it is true of the model, and the status of a limit has its cause.
 pub record IsAnswer (m : ModelParts) (asked : SolveJob) (answer : Answer)
     (outcome : Outcome) : Type 0 where
   pub machine : answer ≡ machine_answer m asked.tune
@@ -112,8 +112,8 @@ pub record HasNoMemory (old new : ShelfState) (found : Result Outcome Failure) :
   pub is : found ≡ Err Memory
   pub unused : new ≡ old
 
--- What words find has its cause in the job that they ask for. Where they ask nothing, they are refused. Want of memory is
--- free.
+-- What words come to has its cause in the job that they ask for. Words that ask nothing are
+-- refused. Want of memory is free.
 pub data IsCaused (words : List (List ℕ)) (old new : ShelfState)
     (found : Result Outcome Failure) : Type 0 where
   Asked : IsAsked words old new found → IsCaused words old new found

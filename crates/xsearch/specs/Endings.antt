@@ -43,8 +43,8 @@ pub record IsUnput (old new : SinkState) (status : ExitStatus) : Type 0 where
   pub nothing : new.out ≡ old.out
   pub faults : new.faults ≡ old.faults
 
--- One put of a text, which ends a run with `meant` where it succeeds: the text went out whole; or the put failed and a front
--- of the text went out; or there was no memory and nothing went out.
+-- One put of a text, which ends a run with `meant` where it succeeds: the text went out whole; or
+-- the put failed and a front of it went out; or there was no memory and nothing went out.
 pub data IsPut (old new : SinkState) (text : List ℕ) (meant status : ExitStatus) : Type 0 where
   Whole : IsWhole old new text meant status → IsPut old new text meant status
   Broken : IsBroken old new text status → IsPut old new text meant status
@@ -55,7 +55,7 @@ pub record IsSilent (old new : SinkState) (meant status : ExitStatus) : Type 0 w
   pub exit : status ≡ meant
   pub unused : new ≡ old
 
--- an answer ends a run with status 0, and where a limit ended the search with 3 or 4: that of work or that of the store
+-- an answer ends a run with status 0, or with 3 or 4 where the limit on work or store was met
 abbrev pub exit_of : Status → ExitStatus
 exit_of search.Optimal = Done
 exit_of search.Infeasible = Done

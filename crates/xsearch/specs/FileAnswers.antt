@@ -19,15 +19,15 @@ abbrev pub IsSolutionFound : MpsModel → Option ℕ → Option Best → Type 0
 IsSolutionFound mps upper None = Unit {0}
 IsSolutionFound mps upper (Some best) = IsSolution mps upper best.point
 
--- Optimal has a best solution, at Infeasible there is no solution, and at a limit a point that is there is a solution
+-- Optimal has a best solution, at Infeasible there is none, and a point at a limit is a solution
 abbrev pub IsTrueStatusOfFile : MpsModel → Option ℕ → Status → Option Best → Type 0
 IsTrueStatusOfFile mps upper Optimal best = HasBestSolution mps upper best
 IsTrueStatusOfFile mps upper Infeasible best = HasNoSolution mps upper
 IsTrueStatusOfFile mps upper StoreLimit best = IsSolutionFound mps upper best
 IsTrueStatusOfFile mps upper WorkLimit best = IsSolutionFound mps upper best
 
--- The objective that is printed with a point is the file's own: as a whole number it is counted in units of ten to the power
--- of minus the decimals, and that of the file in units of 10^-18.
+-- The objective that is printed with a point is the file's own: the model counts it in units of ten
+-- to the power of minus the decimals, and the file in units of 10^-18.
 abbrev pub IsFileObjective : MpsModel → ModelParts → Option Best → Type 0
 IsFileObjective mps m None = Unit {0}
 IsFileObjective mps m (Some best) = (file_objective mps best.point *ℤ pos (10 ^ m.decimals)) ≡

@@ -23,8 +23,8 @@ pub record IsRefusedFile (shelf : ShelfState) (name : List ℕ) (line : ℕ)
   pub file : IsFile shelf name bytes
   pub refused : IsRefused bytes line kind
 
--- Why there is no model of the file of this name: the file is too long, the read failed, a line is refused, or there was no
--- memory, which is free. No other failure comes of it.
+-- Why there is no model of the file of this name: the file is too long, the read failed, a line is
+-- refused, or there was no memory, which is free. No other failure comes of it.
 abbrev pub IsFileFailure : ShelfState → ShelfState → List ℕ → Failure → Type 0
 IsFileFailure old new name Words = ⊥
 IsFileFailure old new name Length = IsLongFile old name

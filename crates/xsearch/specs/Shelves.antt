@@ -4,8 +4,8 @@ use Rattle.xsearch_words.specs.Faults.{next_count}
 use Rattle.xsearch_words.specs.Files.{contents}
 use Rattle.xsearch_words.specs.Shelf.{ShelfState}
 
--- These bytes, no more than a model file may have, are those that the shelf holds under the name. Where it doesn't tell its
--- files, they are some bytes.
+-- These bytes, no more than a model file may have, are those that the shelf holds under the name.
+-- Where it doesn't tell its files, they are some bytes.
 pub record IsFile (shelf : ShelfState) (name bytes : List ℕ) : Type 0 where
   pub told : IfSome shelf.files (λ files. bytes ≡ contents files name)
   pub short : length bytes ≤ 2 ^ 24

@@ -11,9 +11,11 @@ use sample_model::generate;
 use std::alloc::Global;
 use xsearch_words::Sink;
 
-/// Does the command `gen`, and answers the exit status: puts the canonical text of the sample model of a number.
+/// Does the command `gen`, and answers the exit status: puts the canonical text of the sample model
+/// of a number.
 ///
-/// The status is 0 where the text went out, 7 where the put failed, and 8 where memory could not be had.
+/// The status is 0 where the text went out, 7 where the put failed, and 8 where memory could not be
+/// had.
 pub fn gen_command<O: Sink>(alloc: Global, number: u64, out: &mut O) -> u8
     ensures { Ends (IsPrinted (generated_model number)) (O.state out.old) (O.state out.new) result }
 {

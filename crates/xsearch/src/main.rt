@@ -13,6 +13,7 @@ mod show;
 mod solve;
 mod status;
 
+pub use answer::answer_text;
 pub use generate::gen_command;
 pub use run::run;
 pub use show::show_command;
@@ -22,7 +23,8 @@ use std::rt::Env;
 use std::{env, io};
 use xsearch_words::{FileShelf, StdoutSink};
 
-/// Runs the command line's words, after the program's name, over the system's files and the standard output.
+/// Runs the command line's words, after the program's name, over the system's files and the
+/// standard output.
 fn main(rt: HostRuntime) -> ExitCode {
     let alloc = rt.alloc();
     let words = match command_words(&rt) {

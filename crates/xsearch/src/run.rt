@@ -15,16 +15,19 @@ use xsearch_words::{Job, JobError, Shelf, Sink, settings};
 /// Does the one command that the words ask for, and answers the exit status.
 ///
 /// `solve MODEL` and `alone MODEL` read the model file MODEL from the shelf, admit it, search it,
-/// write its log where `--log=NAME` asks for it, and put its answer on the sink; `--tasks=N` sets
-/// the number of slots that search, `--work=N` and `--store=N` their limits, and `--default-upper=N`
-/// the upper bound of columns that have none. `show MODEL` puts the canonical text of the file's
-/// model, and `gen NUMBER` that of a sample model. The status is 0 where an optimal or infeasible
-/// answer or a canonical text went out, 2 where the words ask nothing, 3 and 4 where the limit on
-/// work or the store ended the search, 5 where the file is too long, a line of it isn't allowed or
-/// its model isn't admitted, 6 where a read or a write failed, 7 where the put failed, and 8 where
-/// memory could not be had. A text goes out by one put, after all files are written. After 6 and 8
-/// nothing has gone out, and some first files are written; after 7 a front of the text has, and all
-/// are. No other file is changed.
+/// write the log to the file NAME of `--log=NAME`, where it is given, and put the answer on the
+/// sink; `--tasks=N` sets the number of slots that search, `--work=N` and `--store=N` their limits,
+/// and `--default-upper=N` the upper bound of columns that have none. `show MODEL` puts the
+/// canonical text of the file's model, and `gen NUMBER` that of a sample model.
+///
+/// The status is 0 where an optimal or infeasible answer or a canonical text went out, 2 where the
+/// words ask nothing, 3 and 4 where the limit on work or the store ended the search, 5 where the
+/// file is too long, a line of it isn't allowed or its model isn't admitted, 6 where a read or a
+/// write failed, 7 where the put failed, and 8 where memory could not be had.
+///
+/// A text goes out by one put, after all files are written. After 6 and 8 nothing has gone out and
+/// some first files are written; after 7 all are, and a front of the text has gone out. No other
+/// file is changed.
 pub fn run<S: Shelf, O: Sink>(alloc: Global, words: &[String], shelf: &mut S, out: &mut O) -> u8
     ensures { Ends (IsCaused (map string_bytes words.now) (S.state shelf.old) (S.state shelf.new))
         (O.state out.old) (O.state out.new) result }

@@ -14,11 +14,11 @@ use mps_read::{MpsModel, print};
 use std::alloc::Global;
 use xsearch_words::{Shelf, Sink};
 
-/// Does the command `show`, and answers the exit status: reads the model of a file and puts its canonical text, or the one
-/// refusal line. The model needn't be one that is admitted.
+/// Does the command `show`, and answers the exit status: reads the model of a file and puts its
+/// canonical text, or the one refusal line. The model needn't be one that is admitted.
 ///
-/// The status is 0 where the text went out, 5 where the file is too long or a line of it is refused, 6 where the read
-/// failed, 7 where the put failed, and 8 where memory could not be had.
+/// The status is 0 where the text went out, 5 where the file is too long or a line of it is
+/// refused, 6 where the read failed, 7 where the put failed, and 8 where memory could not be had.
 pub fn show_command<S: Shelf, O: Sink>(
     alloc: Global,
     model: &Text,
