@@ -1,4 +1,4 @@
--- The cause of what a command found.
+-- The cause of what a command finds, and of what it comes to.
 use Rattle.std.specs.Prelude.{ℕ, ◌≡◌, List, [], Option, Some, None, Result, Ok, Err}
 use Rattle.ip_core.specs.declared.model.ModelParts.{ModelParts}
 use Rattle.mps_model.specs.Prints.{canonical_text}
@@ -86,36 +86,36 @@ pub record IsPrintedSample (number : ℕ) (old new : ShelfState)
   pub print : IsPrinted (generated_model number) found
   pub unused : new ≡ old
 
--- what a job finds has its cause in the job and the shelf
+-- what a job comes to has its cause in the job and the shelf
 abbrev pub IsCausedBy : Job → ShelfState → ShelfState → Result Outcome Failure → Type 0
-IsCausedBy (Solve asked) old new found = IsSolvedFile asked old new found
-IsCausedBy (Alone asked) old new found = IsSolvedFile asked old new found
-IsCausedBy (Show model) old new found = IsFileJob IsPrinted old new model found
-IsCausedBy (Gen number) old new found = IsPrintedSample number old new found
+IsCausedBy (Solve asked) old new ended = IsSolvedFile asked old new ended
+IsCausedBy (Alone asked) old new ended = IsSolvedFile asked old new ended
+IsCausedBy (Show model) old new ended = IsFileJob IsPrinted old new model ended
+IsCausedBy (Gen number) old new ended = IsPrintedSample number old new ended
 
--- words ask for a job, in which what was found has its cause
+-- words ask for a job, and what it comes to has its cause
 pub record IsAsked (words : List (List ℕ)) (old new : ShelfState)
-    (found : Result Outcome Failure) : Type 0 where
+    (ended : Result Outcome Failure) : Type 0 where
   pub asked : Job
   pub is : job words ≡ Some asked
-  pub cause : IsCausedBy asked old new found
+  pub cause : IsCausedBy asked old new ended
 
 -- words ask nothing, and are refused without a call of the shelf
 pub record IsUnasked (words : List (List ℕ)) (old new : ShelfState)
-    (found : Result Outcome Failure) : Type 0 where
+    (ended : Result Outcome Failure) : Type 0 where
   pub none : job words ≡ None
-  pub is : found ≡ Err Words
+  pub is : ended ≡ Err Words
   pub unused : new ≡ old
 
 -- the words could not be read for want of memory, without a call of the shelf
-pub record HasNoMemory (old new : ShelfState) (found : Result Outcome Failure) : Type 0 where
-  pub is : found ≡ Err Memory
+pub record HasNoMemory (old new : ShelfState) (ended : Result Outcome Failure) : Type 0 where
+  pub is : ended ≡ Err Memory
   pub unused : new ≡ old
 
 -- What words come to has its cause in the job that they ask for. Words that ask nothing are
 -- refused. Want of memory is free.
 pub data IsCaused (words : List (List ℕ)) (old new : ShelfState)
-    (found : Result Outcome Failure) : Type 0 where
-  Asked : IsAsked words old new found → IsCaused words old new found
-  Unasked : IsUnasked words old new found → IsCaused words old new found
-  NoMemory : HasNoMemory old new found → IsCaused words old new found
+    (ended : Result Outcome Failure) : Type 0 where
+  Asked : IsAsked words old new ended → IsCaused words old new ended
+  Unasked : IsUnasked words old new ended → IsCaused words old new ended
+  NoMemory : HasNoMemory old new ended → IsCaused words old new ended
