@@ -8,9 +8,9 @@ use Rattle.xsearch.specs.Writes.{IsWritten, AllWritten}
 use Rattle.xsearch_words.proofs.OutputWrites.{none_written}
 use Rattle.xsearch_words.specs.Shelf.{HasNoFault, ShelfState}
 use Rattle.xsearch_words.specs.Sink.{SinkState}
-use Rattle.xsearch.specs.declared.outcome.Outcome.{Outcome}
-use Rattle.xsearch.specs.declared.outcome.Failure.{Failure}
-use Rattle.xsearch.specs.declared.outcome.Failure.TheVariants.{ReadFailed}
+use Rattle.xsearch.specs.declared.output.Output.{Output}
+use Rattle.xsearch.specs.declared.output.Failure.{Failure}
+use Rattle.xsearch.specs.declared.output.Failure.TheVariants.{ReadFailed}
 
 abbrev failed : (A : Type 0) → Failure → Result A Failure
 failed A failure = Err failure
@@ -30,23 +30,23 @@ other_failure : (A B : Type 0) (f : Failure) → (failed A f ≡ failed A ReadFa
 other_failure A B f other e = other (ap (failed A) (same_failure B f ReadFailed e))
 
 -- what is found of a model that a file reads as
-pub of_model : (next : MpsModel → Result Outcome Failure → Type 0) (old new : ShelfState) (name : List ℕ) (mps : MpsModel) (outcome : Result Outcome Failure)
-    → IsModelFile old name mps → IsOneRead old new → ((found mps ≡ failed MpsModel ReadFailed → ⊥) → HasNoFault old new) → next mps outcome
-    → IsFileJob next old new name outcome
-of_model next old new name mps outcome file read quiet comes = record {
+pub of_model : (next : MpsModel → Result Output Failure → Type 0) (old new : ShelfState) (name : List ℕ) (mps : MpsModel) (result : Result Output Failure)
+    → IsModelFile old name mps → IsOneRead old new → ((found mps ≡ failed MpsModel ReadFailed → ⊥) → HasNoFault old new) → next mps result
+    → IsFileJob next old new name result
+of_model next old new name mps result file read quiet comes = record {
   read = read;
   of_file = OfModel (record { mps = mps; file = file; comes = comes });
   quiet = λ other. quiet (found_is_read mps);
 }
 
 -- what is found where a file gives no model
-pub of_no_model : (next : MpsModel → Result Outcome Failure → Type 0) (old new : ShelfState) (name : List ℕ) (failure : Failure)
+pub of_no_model : (next : MpsModel → Result Output Failure → Type 0) (old new : ShelfState) (name : List ℕ) (failure : Failure)
     → IsFileFailure old new name failure → IsOneRead old new → ((failed MpsModel failure ≡ failed MpsModel ReadFailed → ⊥) → HasNoFault old new)
     → IsFileJob next old new name (Err failure)
 of_no_model next old new name failure cause read quiet = record {
   read = read;
   of_file = NoModel (record { failure = failure; is = refl; cause = cause });
-  quiet = λ other. quiet (other_failure Outcome MpsModel failure other);
+  quiet = λ other. quiet (other_failure Output MpsModel failure other);
 }
 
 -- a failure has no files
@@ -54,7 +54,7 @@ pub nothing_to_write : (failure : Failure) (state : ShelfState) → IsWritten (E
 nothing_to_write failure state = AllWritten refl (none_written state)
 
 -- a run that ends with what it came to has its cause
-pub with_cause : (P : Result Outcome Failure → Type 0) (ended : Result Outcome Failure) (old new : SinkState) (code : ℕ) → P ended → Ends (λ e. e ≡ ended) old new code → Ends P old new code
+pub with_cause : (P : Result Output Failure → Type 0) (ended : Result Output Failure) (old new : SinkState) (code : ℕ) → P ended → Ends (λ e. e ≡ ended) old new code → Ends P old new code
 with_cause P ended old new code cause ends = record {
   ended = ends.ended;
   status = ends.status;
@@ -64,7 +64,7 @@ with_cause P ended old new code cause ends = record {
 }
 
 -- what has a cause has each cause that follows from it
-pub weaker : (P Q : Result Outcome Failure → Type 0) (old new : SinkState) (code : ℕ) → ((ended : Result Outcome Failure) → P ended → Q ended) → Ends P old new code → Ends Q old new code
+pub weaker : (P Q : Result Output Failure → Type 0) (old new : SinkState) (code : ℕ) → ((ended : Result Output Failure) → P ended → Q ended) → Ends P old new code → Ends Q old new code
 weaker P Q old new code follows ends = record {
   ended = ends.ended;
   status = ends.status;

@@ -20,74 +20,74 @@ use Rattle.xsearch.specs.FileAnswers.{IsTrueOfFile}
 use Rattle.xsearch.specs.ModelFiles.{IsFileJob}
 use Rattle.xsearch.specs.Searches.{limits_of, machine_answer, machine_history}
 use Rattle.xsearch.specs.Writes.{IsWritten, solve_files}
-use Rattle.xsearch.specs.declared.outcome.Outcome.{Outcome}
-use Rattle.xsearch.specs.declared.outcome.Failure.{Failure}
-use Rattle.xsearch.specs.declared.outcome.Failure.TheVariants.{Words, Model, Memory}
+use Rattle.xsearch.specs.declared.output.Output.{Output}
+use Rattle.xsearch.specs.declared.output.Failure.{Failure}
+use Rattle.xsearch.specs.declared.output.Failure.TheVariants.{Words, Model, Memory}
 use Rattle.xsearch.specs.declared.status.ExitStatus.TheVariants.{Done}
 
 -- An answer of a model, and what solving the model finds. The answer is that of the machine's
 -- search with these tasks and limits. The rest is said of it whatever found it: its status and text
 -- are those of the run, it is true of the model, and the status of a limit has its cause.
 pub record IsAnswer (m : ModelParts) (asked : SolveJob) (answer : Answer)
-    (outcome : Outcome) : Type 0 where
+    (output : Output) : Type 0 where
   pub machine : answer ≡ machine_answer m asked.tune
-  pub exit : outcome.exit ≡ exit_of answer.status
-  pub text : outcome.text ≡ answer_text m answer.status answer.best
-  pub files : outcome.files ≡ solve_files asked (machine_history m asked.tune) answer.status
+  pub exit : output.exit ≡ exit_of answer.status
+  pub text : output.text ≡ answer_text m answer.status answer.best
+  pub files : output.files ≡ solve_files asked (machine_history m asked.tune) answer.status
   pub truth : IsTrueAnswer m answer
   pub limit : IsLimitCause m (limits_of asked.tune) answer.status
 
 -- the answer of the model that a file's model is admitted as, which is true of the file's own model
 pub record IsFileAnswer (asked : SolveJob) (mps : MpsModel)
-    (found : Result Outcome Failure) : Type 0 where
+    (found : Result Output Failure) : Type 0 where
   pub m : ModelParts
   pub answer : Answer
-  pub outcome : Outcome
-  pub is : found ≡ Ok outcome
+  pub output : Output
+  pub is : found ≡ Ok output
   pub admits : Admits mps asked.default_upper m
-  pub of_model : IsAnswer m asked answer outcome
+  pub of_model : IsAnswer m asked answer output
   pub of_file : IsTrueOfFile mps asked.default_upper m answer
 
 -- the reason why a file's model isn't admitted
 pub record IsRefusal (upper : Option ℕ) (mps : MpsModel)
-    (found : Result Outcome Failure) : Type 0 where
+    (found : Result Output Failure) : Type 0 where
   pub reason : Refusal
   pub is : found ≡ Err (Model reason)
   pub refused : refusal mps upper ≡ Some reason
 
 -- what solving a file's model finds: its answer, why it isn't admitted, or no memory, which is free
 pub data IsSolved (asked : SolveJob) (mps : MpsModel)
-    (found : Result Outcome Failure) : Type 0 where
+    (found : Result Output Failure) : Type 0 where
   Solved : IsFileAnswer asked mps found → IsSolved asked mps found
   NotAdmitted : IsRefusal asked.default_upper mps found → IsSolved asked mps found
   Unsolved : found ≡ Err Memory → IsSolved asked mps found
 
 -- a text that is put with status 0, and no file is written
-abbrev pub printed : List ℕ → Outcome
+abbrev pub printed : List ℕ → Output
 printed text = record { files = []; text = text; exit = Done }
 
 -- what printing a model finds: its canonical text, or no memory
-pub data IsPrinted (mps : MpsModel) (found : Result Outcome Failure) : Type 0 where
+pub data IsPrinted (mps : MpsModel) (found : Result Output Failure) : Type 0 where
   Canonical : found ≡ Ok (printed (canonical_text mps)) → IsPrinted mps found
   Unprinted : found ≡ Err Memory → IsPrinted mps found
 
 -- What solving comes to: it is found by one read of the file that is asked for, and the files of
 -- what was found are written.
 pub record IsSolvedFile (asked : SolveJob) (old new : ShelfState)
-    (ended : Result Outcome Failure) : Type 0 where
+    (ended : Result Output Failure) : Type 0 where
   pub between : ShelfState
-  pub found : Result Outcome Failure
+  pub found : Result Output Failure
   pub solved : IsFileJob (IsSolved asked) old between asked.model found
   pub written : IsWritten found between new ended
 
 -- what printing a sample model finds, without a call of the shelf
 pub record IsPrintedSample (number : ℕ) (old new : ShelfState)
-    (found : Result Outcome Failure) : Type 0 where
+    (found : Result Output Failure) : Type 0 where
   pub print : IsPrinted (generated_model number) found
   pub unused : new ≡ old
 
 -- what a job comes to has its cause in the job and the shelf
-abbrev pub IsCausedBy : Job → ShelfState → ShelfState → Result Outcome Failure → Type 0
+abbrev pub IsCausedBy : Job → ShelfState → ShelfState → Result Output Failure → Type 0
 IsCausedBy (Solve asked) old new ended = IsSolvedFile asked old new ended
 IsCausedBy (Alone asked) old new ended = IsSolvedFile asked old new ended
 IsCausedBy (Show model) old new ended = IsFileJob IsPrinted old new model ended
@@ -95,27 +95,27 @@ IsCausedBy (Gen number) old new ended = IsPrintedSample number old new ended
 
 -- words ask for a job, and what it comes to has its cause
 pub record IsAsked (words : List (List ℕ)) (old new : ShelfState)
-    (ended : Result Outcome Failure) : Type 0 where
+    (ended : Result Output Failure) : Type 0 where
   pub asked : Job
   pub is : job words ≡ Some asked
   pub cause : IsCausedBy asked old new ended
 
 -- words ask nothing, and are refused without a call of the shelf
 pub record IsUnasked (words : List (List ℕ)) (old new : ShelfState)
-    (ended : Result Outcome Failure) : Type 0 where
+    (ended : Result Output Failure) : Type 0 where
   pub none : job words ≡ None
   pub is : ended ≡ Err Words
   pub unused : new ≡ old
 
 -- the words could not be read for want of memory, without a call of the shelf
-pub record HasNoMemory (old new : ShelfState) (ended : Result Outcome Failure) : Type 0 where
+pub record HasNoMemory (old new : ShelfState) (ended : Result Output Failure) : Type 0 where
   pub is : ended ≡ Err Memory
   pub unused : new ≡ old
 
 -- What words come to has its cause in the job that they ask for. Words that ask nothing are
 -- refused. Want of memory is free.
 pub data IsCaused (words : List (List ℕ)) (old new : ShelfState)
-    (ended : Result Outcome Failure) : Type 0 where
+    (ended : Result Output Failure) : Type 0 where
   Asked : IsAsked words old new ended → IsCaused words old new ended
   Unasked : IsUnasked words old new ended → IsCaused words old new ended
   NoMemory : HasNoMemory old new ended → IsCaused words old new ended

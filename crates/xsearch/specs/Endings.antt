@@ -6,9 +6,9 @@ use Rattle.xsearch_words.specs.Sink.{GrowsBy, GrowsByFront, SinkState}
 use Rattle.xsearch.specs.Refusals.{words_refusal, length_refusal, mps_refusal, model_refusal}
 use Rattle.plain_tasks.specs.declared.answer.Status.{Status}
 use Rattle.plain_tasks.specs.declared.answer.Status.TheVariants as search
-use Rattle.xsearch.specs.declared.outcome.Outcome.{Outcome}
-use Rattle.xsearch.specs.declared.outcome.Failure.{Failure}
-use Rattle.xsearch.specs.declared.outcome.Failure.TheVariants.{Words, Length, Mps, Model, ReadFailed, WriteFailed, Memory}
+use Rattle.xsearch.specs.declared.output.Output.{Output}
+use Rattle.xsearch.specs.declared.output.Failure.{Failure}
+use Rattle.xsearch.specs.declared.output.Failure.TheVariants.{Words, Length, Mps, Model, ReadFailed, WriteFailed, Memory}
 use Rattle.xsearch.specs.declared.status.ExitStatus.{ExitStatus}
 use Rattle.xsearch.specs.declared.status.ExitStatus.TheVariants.{Done, WorkLimit, StoreLimit, RefusedWords, RefusedInput, ShelfFailed, SinkFailed, NoMemory}
 
@@ -75,6 +75,6 @@ FailsAs (WriteFailed place) old new status = IsSilent old new ShelfFailed status
 FailsAs Memory old new status = IsSilent old new NoMemory status
 
 -- how a run ends, by what it came to
-abbrev pub EndsAs : Result Outcome Failure → SinkState → SinkState → ExitStatus → Type 0
-EndsAs (Ok outcome) old new status = IsPut old new outcome.text outcome.exit status
+abbrev pub EndsAs : Result Output Failure → SinkState → SinkState → ExitStatus → Type 0
+EndsAs (Ok output) old new status = IsPut old new output.text output.exit status
 EndsAs (Err failure) old new status = FailsAs failure old new status

@@ -6,9 +6,9 @@ use Rattle.mps_read.specs.declared.error.MpsKind.{MpsKind}
 use Rattle.xsearch_words.specs.Faults.{HasFailed, failed_read}
 use Rattle.xsearch_words.specs.Shelf.{HasNoFault, ShelfState}
 use Rattle.xsearch.specs.Shelves.{IsFile, IsLongFile, IsOneRead}
-use Rattle.xsearch.specs.declared.outcome.Outcome.{Outcome}
-use Rattle.xsearch.specs.declared.outcome.Failure.{Failure}
-use Rattle.xsearch.specs.declared.outcome.Failure.TheVariants.{Words, Length, Mps, Model, ReadFailed, WriteFailed, Memory}
+use Rattle.xsearch.specs.declared.output.Output.{Output}
+use Rattle.xsearch.specs.declared.output.Failure.{Failure}
+use Rattle.xsearch.specs.declared.output.Failure.TheVariants.{Words, Length, Mps, Model, ReadFailed, WriteFailed, Memory}
 
 -- the file of this name reads as this model
 pub record IsModelFile (shelf : ShelfState) (name : List ℕ) (mps : MpsModel) : Type 0 where
@@ -35,28 +35,28 @@ IsFileFailure old new name (WriteFailed place) = ⊥
 IsFileFailure old new name Memory = Unit {0}
 
 -- what was found comes of the model that the file of this name reads as
-pub record IsOfModel (next : MpsModel → Result Outcome Failure → Type 0) (old : ShelfState)
-    (name : List ℕ) (found : Result Outcome Failure) : Type 0 where
+pub record IsOfModel (next : MpsModel → Result Output Failure → Type 0) (old : ShelfState)
+    (name : List ℕ) (found : Result Output Failure) : Type 0 where
   pub mps : MpsModel
   pub file : IsModelFile old name mps
   pub comes : next mps found
 
 -- the file of this name gave no model, for this reason
 pub record HasNoModel (old new : ShelfState) (name : List ℕ)
-    (found : Result Outcome Failure) : Type 0 where
+    (found : Result Output Failure) : Type 0 where
   pub failure : Failure
   pub is : found ≡ Err failure
   pub cause : IsFileFailure old new name failure
 
 -- what was found comes of the model that the file of this name reads as, or there is none
-pub data IsOfFile (next : MpsModel → Result Outcome Failure → Type 0) (old new : ShelfState)
-    (name : List ℕ) (found : Result Outcome Failure) : Type 0 where
+pub data IsOfFile (next : MpsModel → Result Output Failure → Type 0) (old new : ShelfState)
+    (name : List ℕ) (found : Result Output Failure) : Type 0 where
   OfModel : IsOfModel next old name found → IsOfFile next old new name found
   NoModel : HasNoModel old new name found → IsOfFile next old new name found
 
 -- one read of the file of this name, of which comes what was found; only a failed read is a fault
-pub record IsFileJob (next : MpsModel → Result Outcome Failure → Type 0) (old new : ShelfState)
-    (name : List ℕ) (found : Result Outcome Failure) : Type 0 where
+pub record IsFileJob (next : MpsModel → Result Output Failure → Type 0) (old new : ShelfState)
+    (name : List ℕ) (found : Result Output Failure) : Type 0 where
   pub read : IsOneRead old new
   pub of_file : IsOfFile next old new name found
   pub quiet : found ≢ Err ReadFailed → HasNoFault old new

@@ -9,9 +9,9 @@ use Rattle.xsearch_words.specs.declared.job.SolveJob.{SolveJob}
 use Rattle.xsearch_words.specs.declared.output.OutputFile.{OutputFile}
 use Rattle.xsearch.specs.Answer.{status_word}
 use Rattle.xsearch.specs.Searches.{limits_of, settings_of}
-use Rattle.xsearch.specs.declared.outcome.Outcome.{Outcome}
-use Rattle.xsearch.specs.declared.outcome.Failure.{Failure}
-use Rattle.xsearch.specs.declared.outcome.Failure.TheVariants.{WriteFailed, Memory}
+use Rattle.xsearch.specs.declared.output.Output.{Output}
+use Rattle.xsearch.specs.declared.output.Failure.{Failure}
+use Rattle.xsearch.specs.declared.output.Failure.TheVariants.{WriteFailed, Memory}
 
 -- the file of this text, where it is given a name
 abbrev pub named_file : Option (List ℕ) → List ℕ → List OutputFile
@@ -24,15 +24,15 @@ solve_files asked history status = named_file asked.log
     (log_text (limits_of asked.tune) (settings_of asked.tune) history (status_word status))
 
 -- the files of what was found
-abbrev pub files_of : Result Outcome Failure → List OutputFile
-files_of (Ok outcome) = outcome.files
+abbrev pub files_of : Result Output Failure → List OutputFile
+files_of (Ok output) = output.files
 files_of (Err failure) = []
 
 -- What a run comes to by the writes of the files of what was found: to that, where all are whole;
 -- to a failure that names a file's place, where its write failed and those before it are whole; or
 -- to no memory for the write of one, where those before it are whole.
-pub data IsWritten (found : Result Outcome Failure) (old new : ShelfState)
-    (ended : Result Outcome Failure) : Type 0 where
+pub data IsWritten (found : Result Output Failure) (old new : ShelfState)
+    (ended : Result Output Failure) : Type 0 where
   AllWritten : ended ≡ found → AreWritten (files_of found) old new → IsWritten found old new ended
   OneFailed : (place : ℕ) → ended ≡ Err (WriteFailed place)
       → IsFailedWrite place (files_of found) old new → IsWritten found old new ended

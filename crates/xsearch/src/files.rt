@@ -1,7 +1,7 @@
 ghost use Rattle.std.specs.Prelude.{Ok};
 ghost use Rattle.xsearch.specs.Writes.{IsWritten};
 
-use crate::outcome::{Failure, Outcome};
+use crate::output::{Failure, Output};
 use std::alloc::Global;
 use xsearch_words::{OutputError, Shelf, write_all};
 
@@ -10,26 +10,22 @@ use xsearch_words::{OutputError, Shelf, write_all};
 #[tactic(auto, using(crate::proofs::Running::nothing_to_write))]
 pub fn write_files<S: Shelf>(
     alloc: Global,
-    found: Result<Outcome, Failure>,
+    found: Result<Output, Failure>,
     shelf: &mut S,
-) -> Result<Outcome, Failure>
+) -> Result<Output, Failure>
     ensures { IsWritten found (S.state shelf.old) (S.state shelf.new) result }
 {
     match found {
-        Ok(outcome) => write_outcome(alloc, outcome, shelf),
+        Ok(output) => write_output(alloc, output, shelf),
         Err(failure) => Err(failure),
     }
 }
 
-fn write_outcome<S: Shelf>(
-    alloc: Global,
-    outcome: Outcome,
-    shelf: &mut S,
-) -> Result<Outcome, Failure>
-    ensures { IsWritten (Ok outcome) (S.state shelf.old) (S.state shelf.new) result }
+fn write_output<S: Shelf>(alloc: Global, output: Output, shelf: &mut S) -> Result<Output, Failure>
+    ensures { IsWritten (Ok output) (S.state shelf.old) (S.state shelf.new) result }
 {
-    match write_all(alloc, outcome.files.as_slice(), shelf) {
-        Ok(()) => Ok(outcome),
+    match write_all(alloc, output.files.as_slice(), shelf) {
+        Ok(()) => Ok(output),
         Err(OutputError::Failed { place }) => Err(Failure::WriteFailed { place }),
         Err(OutputError::Memory) => Err(Failure::Memory),
     }

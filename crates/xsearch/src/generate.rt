@@ -3,7 +3,7 @@ ghost use Rattle.sample_model.specs.Samples.{generated_model};
 ghost use Rattle.xsearch.specs.Causes.{IsPrinted};
 ghost use Rattle.xsearch.specs.Runs.{Ends};
 
-use crate::outcome::{Failure, Outcome};
+use crate::output::{Failure, Output};
 use crate::report::finish;
 use crate::show::show_model;
 use ip_core::OutOfMemory;
@@ -23,7 +23,7 @@ pub fn gen_command<O: Sink>(alloc: Global, number: u64, out: &mut O) -> u8
     finish(alloc, found, out)
 }
 
-fn show_sample(alloc: Global, number: u64) -> Result<Outcome, Failure>
+fn show_sample(alloc: Global, number: u64) -> Result<Output, Failure>
     ensures { IsPrinted (generated_model number) result }
 {
     match generate(alloc, number) {

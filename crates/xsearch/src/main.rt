@@ -5,7 +5,7 @@ mod answer;
 mod files;
 mod generate;
 mod model_file;
-mod outcome;
+mod output;
 mod refusal;
 mod report;
 mod run;

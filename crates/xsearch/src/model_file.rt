@@ -6,7 +6,7 @@ ghost use Rattle.xsearch.specs.ModelFiles.{IsModelFile, IsSmall, IsFileFailure};
 ghost use Rattle.xsearch.specs.Shelves.{IsFile, IsOneRead};
 ghost use Rattle.xsearch_words.specs.Shelf.{HasNoFault};
 
-use crate::outcome::Failure;
+use crate::output::Failure;
 use ip_core::{List, Text};
 use mps_model::MpsModel;
 use mps_read::{MpsError, read};

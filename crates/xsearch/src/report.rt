@@ -5,7 +5,7 @@ ghost use Rattle.xsearch.specs.Endings.{EndsAs, FailsAs, IsPut};
 ghost use Rattle.xsearch.specs.Runs.{Ends};
 ghost use Rattle.xsearch.specs.Refusals.{model_refusal as model_refusal_of, mps_refusal as mps_refusal_of};
 
-use crate::outcome::{Failure, Outcome};
+use crate::output::{Failure, Output};
 use crate::refusal::{model_refusal, mps_refusal};
 use crate::status::{ExitStatus, exit_code};
 use ip_core::OutOfMemory;
@@ -15,18 +15,18 @@ use width_admit::Refusal;
 use xsearch_words::{Sink, WriteError};
 
 /// Puts what a command came to, and answers the exit status.
-pub fn finish<O: Sink>(alloc: Global, ended: Result<Outcome, Failure>, out: &mut O) -> u8
+pub fn finish<O: Sink>(alloc: Global, ended: Result<Output, Failure>, out: &mut O) -> u8
     ensures { Ends (λ e. e ≡ ended) (O.state out.old) (O.state out.new) result }
 {
     exit_code(report(alloc, ended, out))
 }
 
 /// Puts what a command came to: its text, one refusal line, or nothing.
-fn report<O: Sink>(alloc: Global, ended: Result<Outcome, Failure>, out: &mut O) -> ExitStatus
+fn report<O: Sink>(alloc: Global, ended: Result<Output, Failure>, out: &mut O) -> ExitStatus
     ensures { EndsAs ended (O.state out.old) (O.state out.new) result }
 {
     match ended {
-        Ok(outcome) => put(alloc, out, outcome.text.as_slice(), outcome.exit),
+        Ok(output) => put(alloc, out, output.text.as_slice(), output.exit),
         Err(failure) => report_failure(alloc, failure, out),
     }
 }

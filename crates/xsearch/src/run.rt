@@ -5,7 +5,7 @@ ghost use Rattle.xsearch.specs.Runs.{Ends};
 ghost use Rattle.xsearch_words.specs.Jobs.{IsJob};
 
 use crate::generate::gen_command;
-use crate::outcome::Failure;
+use crate::output::Failure;
 use crate::report::finish;
 use crate::show::show_command;
 use crate::solve::solve_alone;

@@ -6,7 +6,7 @@ ghost use Rattle.xsearch.specs.Runs.{Ends};
 ghost use Rattle.xsearch_words.specs.declared.job.Job.TheVariants.{Show};
 
 use crate::model_file::read_model;
-use crate::outcome::{Failure, Outcome};
+use crate::output::{Failure, Output};
 use crate::report::finish;
 use crate::status::ExitStatus;
 use ip_core::{List, OutOfMemory, Text};
@@ -34,7 +34,7 @@ pub fn show_command<S: Shelf, O: Sink>(
 
 /// Prints the model of a file, which isn't admitted: its canonical text, or why there is none.
 #[tactic(auto, using(crate::proofs::Running::of_model, crate::proofs::Running::of_no_model))]
-fn show_file<S: Shelf>(alloc: Global, model: &Text, shelf: &mut S) -> Result<Outcome, Failure>
+fn show_file<S: Shelf>(alloc: Global, model: &Text, shelf: &mut S) -> Result<Output, Failure>
     ensures { IsFileJob IsPrinted (S.state shelf.old) (S.state shelf.new) model.now result }
 {
     match read_model(alloc, model, shelf) {
@@ -44,12 +44,12 @@ fn show_file<S: Shelf>(alloc: Global, model: &Text, shelf: &mut S) -> Result<Out
 }
 
 /// Prints a model: its canonical text, or that there is no memory.
-pub fn show_model(alloc: Global, mps: &MpsModel) -> Result<Outcome, Failure>
+pub fn show_model(alloc: Global, mps: &MpsModel) -> Result<Output, Failure>
     requires { IsMpsModel mps.now }
     ensures { IsPrinted mps.now result }
 {
     match print(alloc, mps) {
-        Ok(text) => Ok(Outcome {
+        Ok(text) => Ok(Output {
             files: List::new(alloc),
             text,
             exit: ExitStatus::Done,

@@ -14,7 +14,7 @@ ghost use Rattle.xsearch_words.specs.Tunes.{IsTune};
 use crate::answer::{answer_text, status_word};
 use crate::files::write_files;
 use crate::model_file::read_model;
-use crate::outcome::{Failure, Outcome};
+use crate::output::{Failure, Output};
 use crate::report::finish;
 use crate::status::exit_status;
 use ip_core::{List, Model, OutOfMemory};
@@ -56,7 +56,7 @@ pub fn solve_alone<S: Shelf, O: Sink>(
 
 /// Solves the model of a file: its answer, or why there is none.
 #[tactic(auto, using(crate::proofs::Running::of_model, crate::proofs::Running::of_no_model))]
-fn solve_file<S: Shelf>(alloc: Global, job: &SolveJob, shelf: &mut S) -> Result<Outcome, Failure>
+fn solve_file<S: Shelf>(alloc: Global, job: &SolveJob, shelf: &mut S) -> Result<Output, Failure>
     requires { IsTune job.now.tune }
     ensures { IsFileJob (IsSolved job.now)
         (S.state shelf.old) (S.state shelf.new) job.now.model result }
@@ -67,7 +67,7 @@ fn solve_file<S: Shelf>(alloc: Global, job: &SolveJob, shelf: &mut S) -> Result<
     }
 }
 
-fn solve_model(alloc: Global, mps: &MpsModel, job: &SolveJob) -> Result<Outcome, Failure>
+fn solve_model(alloc: Global, mps: &MpsModel, job: &SolveJob) -> Result<Output, Failure>
     requires kept { IsMpsModel mps.now }
     requires small { IsSmall mps.now }
     requires tune { IsTune job.now.tune }
@@ -75,7 +75,7 @@ fn solve_model(alloc: Global, mps: &MpsModel, job: &SolveJob) -> Result<Outcome,
 {
     match admit(alloc, mps, job.default_upper) {
         Ok(model) => match answer(alloc, model, job) {
-            Ok(outcome) => Ok(outcome),
+            Ok(output) => Ok(output),
             Err(OutOfMemory) => Err(Failure::Memory),
         },
         Err(error) => refuse(mps, job, error),
@@ -83,7 +83,7 @@ fn solve_model(alloc: Global, mps: &MpsModel, job: &SolveJob) -> Result<Outcome,
 }
 
 /// What becomes of a model that isn't admitted.
-fn refuse(mps: &MpsModel, job: &SolveJob, error: AdmitError) -> Result<Outcome, Failure>
+fn refuse(mps: &MpsModel, job: &SolveJob, error: AdmitError) -> Result<Output, Failure>
     requires { IsCause mps.now job.now.default_upper error }
     ensures { IsSolved job.now mps.now result }
 {
@@ -95,10 +95,10 @@ fn refuse(mps: &MpsModel, job: &SolveJob, error: AdmitError) -> Result<Outcome, 
 
 /// Lets the slots search the model, and makes the text and the files of their history.
 #[tactic(auto, using(crate::proofs::TrueAnswers::one_each))]
-fn answer(alloc: Global, model: Model, job: &SolveJob) -> Result<Outcome, OutOfMemory>
+fn answer(alloc: Global, model: Model, job: &SolveJob) -> Result<Output, OutOfMemory>
     requires { IsTune job.now.tune }
-    ensures { IfOk result (λ outcome.
-        IsAnswer model job.now (machine_answer model job.now.tune) outcome) }
+    ensures { IfOk result (λ output.
+        IsAnswer model job.now (machine_answer model job.now.tune) output) }
 {
     let search = PlainSearch::of(model);
     let limits = limits_of(&job.tune);
@@ -109,7 +109,7 @@ fn answer(alloc: Global, model: Model, job: &SolveJob) -> Result<Outcome, OutOfM
     let answer = answer_of(alloc, search.model(), &history)?;
     let text = answer_text(alloc, search.model(), &answer)?;
     let files = solve_files(alloc, job, &history, answer.status)?;
-    Ok(Outcome {
+    Ok(Output {
         files,
         text,
         exit: exit_status(answer.status),

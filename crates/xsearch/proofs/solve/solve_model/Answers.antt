@@ -7,7 +7,7 @@ pub returns-in-Ok-answer : goal.returns-in-Ok-answer
 returns-in-Ok-answer c = Solved (record {
   m = c.in-Ok.model;
   answer = _;
-  outcome = c.in-Ok-answer.outcome;
+  output = c.in-Ok-answer.output;
   is = refl;
   admits = c.in-Ok.ensures;
   of_model = c.in-Ok-answer.ensures;

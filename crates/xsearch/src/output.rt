@@ -8,7 +8,7 @@ use xsearch_words::OutputFile;
 /// What a command comes to where nothing fails: the files that it writes, in their order, then the
 /// text that it puts, and the status of a run that does both.
 #[derive(Debug, Drop)]
-pub struct Outcome {
+pub struct Output {
     pub files: List<OutputFile>,
     pub text: Text,
     pub exit: ExitStatus,
@@ -32,7 +32,7 @@ pub enum Failure {
     /// A read failed.
     #[error("a file could not be read")]
     ReadFailed,
-    /// The write of the file at this place among those of the outcome failed.
+    /// The write of the file at this place among those of the output failed.
     #[error("file {place} could not be written")]
     WriteFailed { place: usize },
     /// Memory could not be had.
