@@ -11,12 +11,15 @@ abbrev pub switch_word : Bool → List ℕ
 switch_word true = codes "yes"
 switch_word false = codes "no"
 
--- the number of tasks, the limit on work and the store of each, and the switches of the search
-abbrev pub settings_line : Limits → SearchSettings → List ℕ
-settings_line limits settings = codes "tasks" ++ number_field limits.slots ++ codes " work"
-    ++ number_field limits.work ++ codes " store" ++ number_field limits.store ++ codes " cuts "
-    ++ switch_word settings.cuts ++ codes " heuristics " ++ switch_word settings.heuristics
-    ++ codes "\n"
+-- the number of tasks, and of each its limit on work and its store
+abbrev pub limits_text : Limits → List ℕ
+limits_text limits = codes "tasks" ++ number_field limits.slots ++ codes " work"
+    ++ number_field limits.work ++ codes " store" ++ number_field limits.store
+
+-- the switches of the search
+abbrev pub switches_text : SearchSettings → List ℕ
+switches_text settings = codes " cuts " ++ switch_word settings.cuts ++ codes " heuristics "
+    ++ switch_word settings.heuristics
 
 -- the line of a slot: its number, and the clock at which it ended
 abbrev pub end_line : ℕ → ℕ → List ℕ
@@ -30,6 +33,6 @@ end_lines slot (clock ∷ clocks) = end_line slot clock ++ end_lines (slot + 1) 
 -- The log of a search with these limits and settings, which left this history and ended with the
 -- status of this word. The number of threads doesn't occur in it.
 abbrev pub log_text : Limits → SearchSettings → History → List ℕ → List ℕ
-log_text limits settings history status = codes "xsearch log 1\n" ++ settings_line limits settings
-    ++ entry_lines history.entries ++ end_lines 0 history.ends ++ codes "status " ++ status
-    ++ codes "\n"
+log_text limits settings history status = codes "xsearch log 1\n" ++ limits_text limits
+    ++ switches_text settings ++ codes "\n" ++ entry_lines history.entries
+    ++ end_lines 0 history.ends ++ codes "status " ++ status ++ codes "\n"

@@ -1,5 +1,5 @@
 ghost use Rattle.std.specs.Prelude.{◌≡◌, ◌++◌, IfOk, OnOk};
-ghost use Rattle.log_text.specs.Logs.{end_line, end_lines, log_text as log_text_of, settings_line, switch_word as switch_word_of};
+ghost use Rattle.log_text.specs.Logs.{end_line, end_lines, limits_text, log_text as log_text_of, switch_word as switch_word_of, switches_text};
 
 use entry_text::{append_entries, append_number};
 use ip_core::{OutOfMemory, Text};
@@ -24,7 +24,9 @@ pub fn log_text(
 {
     let mut text = Text::new(alloc);
     text.extend(b"xsearch log 1\n")?;
-    append_settings(&mut text, limits, settings)?;
+    append_limits(&mut text, limits)?;
+    append_switches(&mut text, settings)?;
+    text.push(b'\n')?;
     append_entries(&mut text, history.entries.as_slice())?;
     append_ends(&mut text, history.ends.as_slice())?;
     text.extend(b"status ")?;
@@ -33,24 +35,24 @@ pub fn log_text(
     Ok(text)
 }
 
-fn append_settings(
-    text: &mut Text,
-    limits: &Limits,
-    settings: SearchSettings,
-) -> Result<(), OutOfMemory>
-    ensures { OnOk result (text.new ≡ text.old ++ settings_line limits.now settings) }
+fn append_limits(text: &mut Text, limits: &Limits) -> Result<(), OutOfMemory>
+    ensures { OnOk result (text.new ≡ text.old ++ limits_text limits.now) }
 {
     text.extend(b"tasks")?;
     append_number(text, u64::from(limits.slots))?;
     text.extend(b" work")?;
     append_number(text, limits.work)?;
     text.extend(b" store")?;
-    append_number(text, u64::from(limits.store))?;
+    append_number(text, u64::from(limits.store))
+}
+
+fn append_switches(text: &mut Text, settings: SearchSettings) -> Result<(), OutOfMemory>
+    ensures { OnOk result (text.new ≡ text.old ++ switches_text settings) }
+{
     text.extend(b" cuts ")?;
     text.extend(switch_word(settings.cuts))?;
     text.extend(b" heuristics ")?;
-    text.extend(switch_word(settings.heuristics))?;
-    text.push(b'\n')
+    text.extend(switch_word(settings.heuristics))
 }
 
 fn switch_word(is_on: bool) -> &'static [u8]
