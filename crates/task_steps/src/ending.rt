@@ -1,0 +1,197 @@
+ghost use Rattle.std.specs.Prelude.{◌≡◌, ◌≤◌, ◌<◌, ◌^◌, ◌<ℤ◌, ◌≤ℤ◌, ◌+◌, pos, neg_ℤ, length, IfOk};
+ghost use Rattle.search_truth.specs.Boxes.{high_child as high_child_of, low_child as low_child_of};
+ghost use Rattle.task_steps.specs.Fits.{IsSmall, IsWorker};
+ghost use Rattle.task_steps.specs.Tasks.{after_point as after_point_of, closing as closing_of, kept_child as kept_child_of, splitting as splitting_of, task_after as task_after_of};
+ghost use Rattle.task_steps.specs.declared.keep.Keep.TheVariants.{Neither};
+
+use crate::column::{end_at, middle, widest};
+use crate::keep::Keep;
+use crate::leaf::{record_of, weights_of};
+use crate::local::Task;
+use crate::naming::{child_name, next_ordinal};
+use crate::outcome::{Outcome, Parting, Progress, Worker};
+use dual_ascent::Ascent;
+use ip_core::{Bounds, Closing, List, OutOfMemory};
+use std::alloc::Global;
+use work_stamp::Entry;
+
+/// Closes the node where its bound is no longer below the cutoff, else splits it in the widest column of the box after the
+/// passes.
+pub fn after_point(
+    alloc: Global,
+    task: &Task,
+    worker: Worker,
+    progress: Progress,
+    ascent: &Ascent,
+    cutoff: i64,
+    found: List<Entry>,
+) -> Result<Outcome, OutOfMemory>
+    requires small { IsSmall progress.bounds }
+    requires nodes { task.now.nodes ≤ 8 }
+    requires worker { IsWorker worker }
+    requires few { length ascent.now.mults < 2 ^ 32 }
+    requires low { neg_ℤ (pos (2 ^ 62)) ≤ℤ ascent.now.bound }
+    ensures { IfOk result (λ outcome. outcome ≡ after_point_of task.now worker progress ascent.now cutoff found) }
+{
+    if i128::from(cutoff) <= ascent.bound {
+        let weights = weights_of(alloc, ascent.mults.as_slice())?;
+        return closing(
+            alloc,
+            task.node,
+            worker.splits,
+            found,
+            progress,
+            Closing::Bound(weights),
+        );
+    }
+    let col = widest(&progress.bounds);
+    let at = middle(&progress.bounds, col);
+    let keep = kept_child(task.nodes, end_at(ascent.point.values(), col as usize), at);
+    let parting = Parting {
+        col,
+        at,
+        keep,
+        bound: word_of(ascent.bound),
+    };
+    splitting(alloc, task, worker, found, cutoff, progress.work, parting)
+}
+
+/// A bound as a number of 64 bits, which it fits.
+fn word_of(bound: i128) -> i64
+    requires low { neg_ℤ (pos (2 ^ 62)) ≤ℤ bound }
+    requires high { bound <ℤ pos (2 ^ 63) }
+    ensures { result ≡ bound }
+{
+    bound as i64
+}
+
+/// A task ends with its eighth node; before that it goes on with the child that holds the point.
+fn kept_child(nodes: u32, value: i64, at: i64) -> Keep
+    ensures { result ≡ kept_child_of nodes value at }
+{
+    if nodes == 8 {
+        Keep::Neither
+    } else if value <= at {
+        Keep::Low
+    } else {
+        Keep::High
+    }
+}
+
+/// The node is done with for a reason that is kept, and the task ends.
+pub fn closing(
+    alloc: Global,
+    node: u64,
+    splits: u64,
+    found: List<Entry>,
+    progress: Progress,
+    why: Closing,
+) -> Result<Outcome, OutOfMemory>
+    ensures { IfOk result (λ outcome. outcome ≡ closing_of node splits found progress why) }
+{
+    let mut entries = found;
+    entries.push(Entry::Closed { node })?;
+    entries.push(Entry::Done)?;
+    let mut records = List::new(alloc);
+    records.push(record_of(node, progress.steps, why))?;
+    Ok(Outcome {
+        entries,
+        records,
+        work: progress.work,
+        task: None,
+        splits,
+    })
+}
+
+/// The node is split, and the task goes on with the kept child.
+fn splitting(
+    alloc: Global,
+    task: &Task,
+    worker: Worker,
+    found: List<Entry>,
+    cutoff: i64,
+    work: u64,
+    parting: Parting,
+) -> Result<Outcome, OutOfMemory>
+    requires small { parting.at <ℤ pos (2 ^ 62) }
+    requires nodes { task.now.nodes ≤ 8 }
+    requires worker { IsWorker worker }
+    ensures { IfOk result (λ outcome. outcome ≡ splitting_of task.now worker found cutoff work parting.col parting.at parting.keep parting.bound) }
+{
+    let splits = next_ordinal(worker.splits);
+    let first = child_name(worker.slot, splits);
+    let mut entries = found;
+    entries.push(Entry::Split {
+        node: task.node,
+        col: parting.col,
+        at: parting.at,
+        first,
+        keep: parting.keep.number(),
+        bound: parting.bound,
+    })?;
+    if let Keep::Neither = parting.keep {
+        entries.push(Entry::Done)?;
+    }
+    Ok(Outcome {
+        entries,
+        records: List::new(alloc),
+        work,
+        task: task_after(alloc, task, cutoff, first, parting)?,
+        splits,
+    })
+}
+
+/// The task on the child that is kept.
+fn task_after(
+    alloc: Global,
+    task: &Task,
+    cutoff: i64,
+    first: u64,
+    parting: Parting,
+) -> Result<Option<Task>, OutOfMemory>
+    requires small { parting.at <ℤ pos (2 ^ 62) }
+    requires room { first + 1 < 2 ^ 64 }
+    requires nodes { task.now.nodes ≤ 8 }
+    ensures { IfOk result (λ after. after ≡ task_after_of task.now parting.col parting.at first cutoff parting.keep) }
+{
+    let (node, bounds) = match parting.keep {
+        Keep::Low => (
+            first,
+            low_child(alloc, &task.bounds, parting.col, parting.at)?,
+        ),
+        Keep::High => (
+            first + 1,
+            high_child(alloc, &task.bounds, parting.col, parting.at)?,
+        ),
+        Keep::Neither => return Ok(None),
+    };
+    Ok(Some(Task {
+        node,
+        bounds,
+        cutoff,
+        nodes: task.nodes + 1,
+    }))
+}
+
+/// A box of which a column's high is lowered to `at`.
+fn low_child(alloc: Global, bounds: &Bounds, col: u32, at: i64) -> Result<Bounds, OutOfMemory>
+    ensures { IfOk result (λ child. child ≡ low_child_of bounds.now col at) }
+{
+    let mut child = bounds.copy(alloc)?;
+    if (col as usize) < child.lows().len() {
+        child.cut_high(col, at);
+    }
+    Ok(child)
+}
+
+/// A box of which a column's low is raised above `at`.
+fn high_child(alloc: Global, bounds: &Bounds, col: u32, at: i64) -> Result<Bounds, OutOfMemory>
+    requires { at <ℤ pos (2 ^ 62) }
+    ensures { IfOk result (λ child. child ≡ high_child_of bounds.now col at) }
+{
+    let mut child = bounds.copy(alloc)?;
+    if (col as usize) < child.lows().len() {
+        child.cut_low(col, at + 1);
+    }
+    Ok(child)
+}
