@@ -48,8 +48,8 @@ use Rattle.task_steps.specs.Keeps.{number_of}
 use Rattle.task_steps.specs.Lawful.{search_law}
 use Rattle.task_steps.specs.Leaves.{weights_of}
 use Rattle.task_steps.specs.LimitCauses.{HasLimitCause, IsLimitCause}
-use Rattle.task_steps.specs.Rules.{begin_by, begin_of, chunk_of, rules, seen_of}
-use Rattle.task_steps.specs.Tasks.{after_passes, after_point, ascended, child_name, closing, ending, is_found, kept_child, next_ordinal, node_chunk, on_point, progress_of, splitting}
+use Rattle.task_steps.specs.Rules.{begin_by, begin_of, chunk_of, rules, search_view}
+use Rattle.task_steps.specs.Tasks.{after_passes, after_point, ascent_of, child_name, closing_chunk, end_entries, is_found, kept_child, next_ordinal, node_chunk, on_point, progress_of, splitting_chunk}
 use Rattle.task_steps.specs.declared.answer.Best.{Best}
 use Rattle.task_steps.specs.declared.answer.Status.{Status}
 use Rattle.task_steps.specs.declared.answer.Status.TheVariants.{StoreLimit, WorkLimit}
@@ -57,9 +57,9 @@ use Rattle.task_steps.specs.declared.keep.Keep.{Keep}
 use Rattle.task_steps.specs.declared.keep.Keep.TheVariants.{Low, High, Neither}
 use Rattle.task_steps.specs.declared.local.Local.{Local}
 use Rattle.task_steps.specs.declared.local.Task.{Task}
-use Rattle.task_steps.specs.declared.outcome.Outcome.{Outcome}
-use Rattle.task_steps.specs.declared.outcome.Progress.{Progress}
-use Rattle.task_steps.specs.declared.outcome.Worker.{Worker}
+use Rattle.task_steps.specs.declared.task_chunk.TaskChunk.{TaskChunk}
+use Rattle.task_steps.specs.declared.task_chunk.Progress.{Progress}
+use Rattle.task_steps.specs.declared.task_chunk.Worker.{Worker}
 use Rattle.task_steps.specs.Lemmas.Entries.{base_of}
 use Rattle.task_steps.specs.Lemmas.Feasible.{and_true}
 use Rattle.task_steps.specs.Lemmas.Histories.{same_view}
@@ -140,28 +140,28 @@ module _ (m : ModelParts) (settings : SearchSettings) where
 
 -- ---- no task gives a Halt
 
-abbrev IsQuiet : Outcome → Type 0
+abbrev IsQuiet : TaskChunk → Type 0
 IsQuiet o = has_halt o.entries ≡ false
 
 closing_quiet : (node splits : ℕ) (found : List Entry) (p : Progress) (why : Closing)
-    → has_halt found ≡ false → IsQuiet (closing node splits found p why)
+    → has_halt found ≡ false → IsQuiet (closing_chunk node splits found p why)
 closing_quiet node splits found p why h =
     no_halt-append (found ++ Closed node ∷ []) (Done ∷ [])
     (no_halt-append found (Closed node ∷ []) h refl) refl
 
-ending_quiet : (keep : Keep) → has_halt (ending keep) ≡ false
-ending_quiet Low = refl
-ending_quiet High = refl
-ending_quiet Neither = refl
+end_quiet : (keep : Keep) → has_halt (end_entries keep) ≡ false
+end_quiet Low = refl
+end_quiet High = refl
+end_quiet Neither = refl
 
 splitting_quiet : (task : Task) (worker : Worker) (found : List Entry) (cutoff : ℤ) (work col : ℕ)
     (at : ℤ) (keep : Keep) (bound : ℤ) → has_halt found ≡ false
-    → IsQuiet (splitting task worker found cutoff work col at keep bound)
+    → IsQuiet (splitting_chunk task worker found cutoff work col at keep bound)
 splitting_quiet task worker found cutoff work col at keep bound h =
     let split : Entry = Split task.node col at
     (child_name worker.slot (next_ordinal worker.splits)) (number_of keep) bound in
-    no_halt-append (found ++ split ∷ []) (ending keep) (no_halt-append found (split ∷ []) h refl)
-    (ending_quiet keep)
+    no_halt-append (found ++ split ∷ []) (end_entries keep) (no_halt-append found (split ∷ []) h refl)
+    (end_quiet keep)
 
 after_point_quiet : (task : Task) (worker : Worker) (p : Progress) (a : Ascent) (cutoff : ℤ)
     (found : List Entry) → has_halt found ≡ false
@@ -184,7 +184,7 @@ on_point_quiet m task worker p a false = after_point_quiet task worker p a task.
 passes_quiet : (m : ModelParts) (task : Task) (worker : Worker) (p : Propagation) (o : Ended)
     → IsQuiet (after_passes m task worker p o)
 passes_quiet m task worker p ended.Open =
-    let a = ascended m p.sides in
+    let a = ascent_of m p.sides in
     on_point_quiet m task worker (progress_of p a.work) a (is_found m task.cutoff a)
 passes_quiet m task worker p (ended.Conflict row) =
     closing_quiet task.node worker.splits [] (progress_of p 0) (Conflict row) refl
@@ -323,15 +323,15 @@ module _ (m : ModelParts) (settings : SearchSettings) (valid : IsModel m) (paire
   entries = (history (rules m settings) limits).entries
 
   abbrev last_view : View
-  last_view = seen_of m settings entries
+  last_view = search_view m settings entries
 
   over_after : (front es : List KeyedEntry) → FollowInTurn (MayFollowIn m settings) front es
-      → is_over (seen_of m settings front) ≡ true
-      → is_over (view_after (rules m settings) (seen_of m settings front) es) ≡ true
+      → is_over (search_view m settings front) ≡ true
+      → is_over (view_after (rules m settings) (search_view m settings front) es) ≡ true
   over_after front [] follow over = over
   over_after front (e ∷ es) follow over =
-      let v = seen_of m settings front in
-      let next : seen_of m settings (front ++ e ∷ []) ≡ after_entry v e.entry =
+      let v = search_view m settings front in
+      let next : search_view m settings (front ++ e ∷ []) ≡ after_entry v e.entry =
       view_after-append (rules m settings) (fresh_view m settings) front (e ∷ []) in
       let may : MayFollow m v e.entry = subst (λ (w : View). MayFollow m w e.entry)
       (sym (same_view m settings front)) follow.0 in
@@ -354,13 +354,13 @@ module _ (m : ModelParts) (settings : SearchSettings) (valid : IsModel m) (paire
 
   -- a search that is over on a front of its history is over in the end
   over_in_the_end : (front rest : List KeyedEntry) → entries ≡ front ++ rest
-      → is_over (seen_of m settings front) ≡ true → is_over last_view ≡ true
+      → is_over (search_view m settings front) ≡ true → is_over last_view ≡ true
   over_in_the_end front rest whole over =
       let follow : FollowInTurn (MayFollowIn m settings) front rest =
       follow-right (MayFollowIn m settings) [] front rest
       (subst (λ (es : List KeyedEntry). FollowInTurn (MayFollowIn m settings) [] es) whole
       (law m settings valid paired limits ranges (last limits)).follow) in
-      subst (λ (u : View). is_over u ≡ true) (sym (ap (seen_of m settings) whole
+      subst (λ (u : View). is_over u ≡ true) (sym (ap (search_view m settings) whole
       ∙ view_after-append (rules m settings) (fresh_view m settings) front rest))
       (over_after front rest follow over)
 
@@ -371,7 +371,7 @@ module _ (m : ModelParts) (settings : SearchSettings) (valid : IsModel m) (paire
   spent_end going none number slot (Full h) = absurd (none _ h)
   spent_end going none number slot (NothingLeft over) =
       absurd (false≢true (sym going ∙ over_in_the_end over.front over.rest over.whole
-      (end_over m (seen_of m settings over.front) over.local over.over)))
+      (end_over m (search_view m settings over.front) over.local over.over)))
 
   all_spent : is_finished last_view ≡ false → last_view.has_halt ≡ false
       → IsAllSpent (rules m settings) limits

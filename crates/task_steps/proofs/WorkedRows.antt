@@ -9,7 +9,7 @@ use Rattle.work_stamp.specs.declared.entry.Entry.TheVariants.{Found, Split, Clos
 use Rattle.task_steps.specs.Leaves.{record_of, weights_of}
 use Rattle.task_steps.specs.Tasks.{child_name, next_ordinal, node_chunk}
 use Rattle.task_steps.specs.declared.local.Task.{Task}
-use Rattle.task_steps.specs.declared.outcome.Worker.{Worker}
+use Rattle.task_steps.specs.declared.task_chunk.Worker.{Worker}
 
 -- the first slot, after so many splits
 abbrev worker : ℕ → Worker

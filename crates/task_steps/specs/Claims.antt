@@ -92,15 +92,15 @@ abbrev pub high_held : Held → ℕ → ℤ → ℕ → Held
 high_held node col at first = record { name = first + 1; bounds = high_child node.bounds col at }
 
 -- the child that is kept
-abbrev pub kept_held : Held → ℕ → ℤ → ℕ → Keep → Option Held
-kept_held node col at first Low = Some (low_held node col at first)
-kept_held node col at first High = Some (high_held node col at first)
-kept_held node col at first Neither = None
+abbrev pub child_held : Held → ℕ → ℤ → ℕ → Keep → Option Held
+child_held node col at first Low = Some (low_held node col at first)
+child_held node col at first High = Some (high_held node col at first)
+child_held node col at first Neither = None
 
 -- the same of a held node, if there is one
-abbrev pub kept_of : Option Held → ℕ → ℤ → ℕ → Keep → Option Held
-kept_of None col at first keep = None
-kept_of (Some node) col at first keep = kept_held node col at first keep
+abbrev pub hold_after_split : Option Held → ℕ → ℤ → ℕ → Keep → Option Held
+hold_after_split None col at first keep = None
+hold_after_split (Some node) col at first keep = child_held node col at first keep
 
 -- a slot's claim after one of its pending entries has joined
 abbrev pub claim_after : Claim → Entry → Claim
@@ -110,7 +110,7 @@ claim_after c (HeurStart node) = c
 claim_after c Done = c
 claim_after c (Found value point) = record c { cutoff = value }
 claim_after c (Cut derivation) = c
-claim_after c (Split node col at first keep bound) = record c { hold = kept_of c.hold col at first (keep_of keep); splits = next_ordinal c.splits }
+claim_after c (Split node col at first keep bound) = record c { hold = hold_after_split c.hold col at first (keep_of keep); splits = next_ordinal c.splits }
 claim_after c (Closed node) = record c { hold = None }
 claim_after c Halt = c
 

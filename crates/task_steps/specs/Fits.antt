@@ -9,18 +9,19 @@ use Rattle.node_pool.specs.Laws.{AreKnown}
 use Rattle.node_pool.specs.Views.{View, is_known}
 use Rattle.task_steps.specs.declared.local.Local.{Local}
 use Rattle.task_steps.specs.declared.local.Task.{Task}
-use Rattle.task_steps.specs.declared.outcome.Worker.{Worker}
+use Rattle.task_steps.specs.declared.task_chunk.Worker.{Worker}
 
 -- both ends of each column lie within the limit of bounds
 pub record IsSmall (s : Sides) : Type 0 where
   pub lows : (j : ℕ) → unsigned_abs (int_at s.lows j) ≤ 2 ^ 31
   pub highs : (j : ℕ) → unsigned_abs (int_at s.highs j) ≤ 2 ^ 31
 
--- a task whose box lies in the root box, at one of its eight nodes; its cutoff is no more than the first one of a search
+-- a task whose box lies in the root box, at one of its eight nodes; its cutoff is at most 2^51
 pub record IsTask (m : ModelParts) (task : Task) : Type 0 where
   pub word : task.node < 2 ^ 64
   pub within : IsWithin m.root task.bounds
   pub paired : IsPaired task.bounds
+  pub begun : 1 ≤ task.nodes
   pub nodes : task.nodes ≤ 8
   pub cutoff : task.cutoff ≤ℤ pos (2 ^ 51)
 
@@ -47,7 +48,7 @@ pub record IsBoxed (m : ModelParts) (v : View) (name : ℕ) : Type 0 where
   pub paired : IsPaired (box_of m.root v.branches name)
 
 -- a view whose open and held nodes have known names, and in which each known name has a box in
--- the root box; its cutoff is no more than the first one of a search
+-- the root box; its cutoff is at most 2^51
 pub record FitsView (m : ModelParts) (v : View) : Type 0 where
   pub known : AreKnown v
   pub boxed : (name : ℕ) → is_known v name ≡ true → IsBoxed m v name

@@ -14,7 +14,7 @@ use Rattle.node_pool.specs.Views.{View, view_of}
 use Rattle.node_pool.specs.declared.settings.SearchSettings.{SearchSettings}
 use Rattle.task_steps.specs.Agrees.{Agrees, MayFollowIn}
 use Rattle.task_steps.specs.Fits.{FitsLocal, FitsView}
-use Rattle.task_steps.specs.Rules.{begin_of, is_none, rules}
+use Rattle.task_steps.specs.Rules.{begin_of, rules}
 use Rattle.task_steps.specs.declared.local.Local.{Local}
 use Rattle.task_steps.specs.Lemmas.Agreeing.{agrees_at_first, chunk_agrees, halt_follows, halt_joins, pending_follows, pending_joins, slot_leaves, take_follows, take_joins}
 use Rattle.task_steps.specs.Lemmas.Beginning.{begin_fits, begin_words, end_stays, idle_stays, take_begins}

@@ -4,7 +4,7 @@ pub mod Feasible
 pub mod PassRuns
 pub mod Reasons
 pub mod Columns
-pub mod Outcomes
+pub mod TaskChunks
 pub mod Bounds
 pub mod Boxes
 pub mod NoColumns

@@ -1,5 +1,5 @@
 -- The search with bounds as a system of tasks.
-use Rattle.std.specs.Prelude.{ℕ, Bool, true, false, List, [], ◌∷◌, Option, Some, None}
+use Rattle.std.specs.Prelude.{ℕ, List, [], ◌∷◌, Option, Some, None, is_none}
 use Rattle.ip_core.specs.declared.model.ModelParts.{ModelParts}
 use Rattle.node_pool.specs.Branchings.{box_of}
 use Rattle.node_pool.specs.Picks.{pick_of}
@@ -14,16 +14,11 @@ use Rattle.work_stamp.specs.declared.task.Begin.TheVariants.{Take, Idle, End}
 use Rattle.task_steps.specs.Tasks.{node_chunk}
 use Rattle.task_steps.specs.declared.local.Local.{Local}
 use Rattle.task_steps.specs.declared.local.Task.{Task}
-use Rattle.task_steps.specs.declared.outcome.Outcome.{Outcome}
+use Rattle.task_steps.specs.declared.task_chunk.TaskChunk.{TaskChunk}
 
 -- a slot that has split nothing, between tasks
 abbrev pub fresh_local : ℕ → Local
 fresh_local slot = record { slot = slot; splits = 0; task = None }
-
--- whether there is no task
-abbrev pub is_none : Option Task → Bool
-is_none None = true
-is_none (Some task) = false
 
 -- a task on a node of the view, with the node's box and the cutoff of the view at its start
 abbrev pub task_on : ModelParts → View → ℕ → Task
@@ -43,16 +38,16 @@ abbrev pub begin_of : ModelParts → View → Local → AfterBegin Local
 begin_of m v l = begin_by m v l (pick_of v)
 
 -- what a chunk leaves
-abbrev pub worked : Local → Outcome → AfterChunk Local
-worked l outcome = record {
-  gives = record { entries = outcome.entries; records = outcome.records; work = outcome.work };
-  local = record l { splits = outcome.splits; task = outcome.task };
+abbrev pub after_chunk : Local → TaskChunk → AfterChunk Local
+after_chunk l chunk = record {
+  gives = record { entries = chunk.entries; records = chunk.records; work = chunk.work };
+  local = record l { splits = chunk.splits; task = chunk.task };
 }
 
 -- a chunk of the slot's task; without a task nothing happens
 abbrev pub chunk_of : ModelParts → Local → Option Task → AfterChunk Local
-chunk_of m l None = worked l (record { entries = []; records = []; work = 0; task = None; splits = l.splits })
-chunk_of m l (Some task) = worked l (node_chunk m (record { slot = l.slot; splits = l.splits }) task)
+chunk_of m l None = after_chunk l (record { entries = []; records = []; work = 0; task = None; splits = l.splits })
+chunk_of m l (Some task) = after_chunk l (node_chunk m (record { slot = l.slot; splits = l.splits }) task)
 
 -- the definitions of the search
 abbrev pub rules : ModelParts → SearchSettings → Rules View Local
@@ -66,5 +61,5 @@ rules m settings = record {
 }
 
 -- the view of a history
-abbrev pub seen_of : ModelParts → SearchSettings → List KeyedEntry → View
-seen_of m settings history = view_of (rules m settings) history
+abbrev pub search_view : ModelParts → SearchSettings → List KeyedEntry → View
+search_view m settings history = view_of (rules m settings) history

@@ -22,9 +22,9 @@ use Rattle.task_steps.specs.Points.{is_feasible_at}
 use Rattle.task_steps.specs.declared.keep.Keep.{Keep}
 use Rattle.task_steps.specs.declared.keep.Keep.TheVariants.{Low, High, Neither}
 use Rattle.task_steps.specs.declared.local.Task.{Task}
-use Rattle.task_steps.specs.declared.outcome.Outcome.{Outcome}
-use Rattle.task_steps.specs.declared.outcome.Progress.{Progress}
-use Rattle.task_steps.specs.declared.outcome.Worker.{Worker}
+use Rattle.task_steps.specs.declared.task_chunk.TaskChunk.{TaskChunk}
+use Rattle.task_steps.specs.declared.task_chunk.Progress.{Progress}
+use Rattle.task_steps.specs.declared.task_chunk.Worker.{Worker}
 
 -- the ordinal of a slot's next split: splits are counted from 1, and the count stays at 2^37 once it is there
 abbrev pub next_ordinal : ℕ → ℕ
@@ -35,8 +35,8 @@ abbrev pub child_name : ℕ → ℕ → ℕ
 child_name slot ordinal = slot * 2 ^ 40 + 4 * ordinal
 
 -- the node is done with for a reason that is kept, and the task ends
-abbrev pub closing : ℕ → ℕ → List Entry → Progress → Closing → Outcome
-closing node splits found p why = record {
+abbrev pub closing_chunk : ℕ → ℕ → List Entry → Progress → Closing → TaskChunk
+closing_chunk node splits found p why = record {
   entries = found ++ Closed node ∷ [] ++ Done ∷ [];
   records = record_of node p.steps why ∷ [];
   work = p.work;
@@ -55,17 +55,17 @@ task_after task col at first cutoff High = Some (record { node = first + 1; boun
 task_after task col at first cutoff Neither = None
 
 -- a task that keeps no child has ended
-abbrev pub ending : Keep → List Entry
-ending Neither = Done ∷ []
-ending _ = []
+abbrev pub end_entries : Keep → List Entry
+end_entries Neither = Done ∷ []
+end_entries _ = []
 
 -- the node is split, and the task goes on with the child that it keeps
-abbrev pub splitting : Task → Worker → List Entry → ℤ → ℕ → ℕ → ℤ → Keep → ℤ → Outcome
-splitting task worker found cutoff work col at keep bound =
+abbrev pub splitting_chunk : Task → Worker → List Entry → ℤ → ℕ → ℕ → ℤ → Keep → ℤ → TaskChunk
+splitting_chunk task worker found cutoff work col at keep bound =
     let ordinal = next_ordinal worker.splits in
     let first = child_name worker.slot ordinal in
     record {
-      entries = found ++ Split task.node col at first (number_of keep) bound ∷ [] ++ ending keep;
+      entries = found ++ Split task.node col at first (number_of keep) bound ∷ [] ++ end_entries keep;
       records = [];
       work = work;
       task = task_after task col at first cutoff keep;
@@ -74,28 +74,28 @@ splitting task worker found cutoff work col at keep bound =
 
 -- after the point was tried: the node is closed where its bound is no longer below the cutoff, else split in the widest column
 -- of the box after the passes
-abbrev pub after_point : Task → Worker → Progress → Ascent → ℤ → List Entry → Outcome
+abbrev pub after_point : Task → Worker → Progress → Ascent → ℤ → List Entry → TaskChunk
 after_point task worker p a cutoff found =
     let col = widest p.bounds in
     let at = middle p.bounds col in
     if int_le cutoff a.bound
-    then closing task.node worker.splits found p (Bound (weights_of a.mults))
-    else splitting task worker found cutoff p.work col at (kept_child task.nodes (int_at a.point col) at) a.bound
+    then closing_chunk task.node worker.splits found p (Bound (weights_of a.mults))
+    else splitting_chunk task worker found cutoff p.work col at (kept_child task.nodes (int_at a.point col) at) a.bound
 
 -- whether the point is found: the bound is below the cutoff, and the point is feasible with a value below it
 abbrev pub is_found : ModelParts → ℤ → Ascent → Bool
 is_found m cutoff a = int_lt a.bound cutoff && (is_feasible_at m a.point && int_lt (value_at m a.point) cutoff)
 
 -- a point that is found lowers the task's cutoff
-abbrev pub on_point : ModelParts → Task → Worker → Progress → Ascent → Bool → Outcome
+abbrev pub on_point : ModelParts → Task → Worker → Progress → Ascent → Bool → TaskChunk
 on_point m task worker p a found =
     if found
     then after_point task worker p a (value_at m a.point) (Found (value_at m a.point) a.point ∷ [])
     else after_point task worker p a task.cutoff []
 
 -- the ascent over a box
-abbrev pub ascended : ModelParts → Sides → Ascent
-ascended m s =
+abbrev pub ascent_of : ModelParts → Sides → Ascent
+ascent_of m s =
     let ys = (ascent m [] s).mults in
     record { mults = ys; bound = lagrangian_bound m [] s ys; point = bound_point m [] s ys; work = ascent_work m [] s }
 
@@ -104,13 +104,13 @@ abbrev pub progress_of : Propagation → ℕ → Progress
 progress_of p work = record { bounds = p.sides; steps = p.steps; work = 1 + p.run.work + work }
 
 -- after the passes: a box that they closed has no ascent
-abbrev pub after_passes : ModelParts → Task → Worker → Propagation → Ended → Outcome
-after_passes m task worker p ended.Open = on_point m task worker (progress_of p (ascended m p.sides).work) (ascended m p.sides) (is_found m task.cutoff (ascended m p.sides))
-after_passes m task worker p (ended.Conflict row) = closing task.node worker.splits [] (progress_of p 0) (Conflict row)
-after_passes m task worker p (ended.Empty col) = closing task.node worker.splits [] (progress_of p 0) (Empty col)
+abbrev pub after_passes : ModelParts → Task → Worker → Propagation → Ended → TaskChunk
+after_passes m task worker p ended.Open = on_point m task worker (progress_of p (ascent_of m p.sides).work) (ascent_of m p.sides) (is_found m task.cutoff (ascent_of m p.sides))
+after_passes m task worker p (ended.Conflict row) = closing_chunk task.node worker.splits [] (progress_of p 0) (Conflict row)
+after_passes m task worker p (ended.Empty col) = closing_chunk task.node worker.splits [] (progress_of p 0) (Empty col)
 
 -- one chunk of a task, on its node
-abbrev pub node_chunk : ModelParts → Worker → Task → Outcome
+abbrev pub node_chunk : ModelParts → Worker → Task → TaskChunk
 node_chunk m worker task =
     let p = propagation_of m.rows [] task.bounds in
     after_passes m task worker p p.run.outcome

@@ -1,5 +1,5 @@
 ghost use Rattle.std.specs.Prelude.{◌≡◌};
-ghost use Rattle.task_steps.specs.Keeps.{keep_of as keep_of_number, number_of};
+ghost use Rattle.task_steps.specs.Keeps.{number_of};
 
 /// Which child of a split the task goes on with. The other is open, or both are.
 #[derive(Clone, Copy, Debug, PartialEq, Eq)]
@@ -19,16 +19,5 @@ impl Keep {
             Keep::High => 1,
             Keep::Neither => 2,
         }
-    }
-}
-
-/// What a number says: each above 1 says that no child is kept.
-pub fn keep_of(number: u8) -> Keep
-    ensures { result ≡ keep_of_number number }
-{
-    match number {
-        0 => Keep::Low,
-        1 => Keep::High,
-        _ => Keep::Neither,
     }
 }

@@ -7,14 +7,14 @@
 
 mod answer;
 mod column;
-mod ending;
+mod close_or_split;
 mod keep;
 mod laws;
 mod leaf;
 mod local;
 mod naming;
 mod node_chunk;
-mod outcome;
+mod task_chunk;
 mod search;
 mod slot;
 mod tasker;

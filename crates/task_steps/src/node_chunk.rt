@@ -4,9 +4,9 @@ ghost use Rattle.task_steps.specs.Fits.{IsSmall, IsTask, IsWorker};
 ghost use Rattle.task_steps.specs.Points.{is_feasible_at};
 ghost use Rattle.task_steps.specs.Tasks.{is_found as is_found_of, node_chunk as node_chunk_of, on_point as on_point_of};
 
-use crate::ending::{after_point, closing};
+use crate::close_or_split::{after_point, closing_chunk};
 use crate::local::Task;
-use crate::outcome::{Outcome, Progress, Worker};
+use crate::task_chunk::{TaskChunk, Progress, Worker};
 use dual_ascent::{Ascent, ascend};
 use ip_core::{Closing, List, Model, OutOfMemory, Point, is_feasible, value};
 use row_propagate::{Outcome as Ended, propagate};
@@ -23,12 +23,12 @@ pub fn node_chunk<P: Pulse>(
     worker: Worker,
     task: &Task,
     pulse: &mut P,
-) -> Result<Outcome, OutOfMemory>
+) -> Result<TaskChunk, OutOfMemory>
     requires task { IsTask model.now task.now }
     requires worker { IsWorker worker }
     requires ready { P.IsReady pulse.old }
     requires allowed { (node_chunk_of model.now worker task.now).work ≤ P.allowance pulse.old }
-    ensures value { IfOk result (λ outcome. outcome ≡ node_chunk_of model.now worker task.now) }
+    ensures value { IfOk result (λ chunk. chunk ≡ node_chunk_of model.now worker task.now) }
     ensures ready { P.IsReady pulse.new }
     ensures rest { P.rest pulse.new ≡ P.rest pulse.old }
     ensures spent { P.allowance pulse.old ≤ P.allowance pulse.new + (node_chunk_of model.now worker task.now).work }
@@ -57,7 +57,7 @@ pub fn node_chunk<P: Pulse>(
         work: 1 + run.work,
     };
     let none = List::new(alloc);
-    closing(alloc, task.node, worker.splits, none, progress, why)
+    closing_chunk(alloc, task.node, worker.splits, none, progress, why)
 }
 
 /// Tries the ascent's point: where it is found, the task's cutoff is lowered to its value.
@@ -68,13 +68,13 @@ fn on_point(
     worker: Worker,
     progress: Progress,
     ascent: &Ascent,
-) -> Result<Outcome, OutOfMemory>
+) -> Result<TaskChunk, OutOfMemory>
     requires small { IsSmall progress.bounds }
     requires nodes { task.now.nodes ≤ 8 }
     requires worker { IsWorker worker }
     requires few { length ascent.now.mults < 2 ^ 32 }
     requires low { neg_ℤ (pos (2 ^ 62)) ≤ℤ ascent.now.bound }
-    ensures { IfOk result (λ outcome. outcome ≡ on_point_of model.now task.now worker progress ascent.now (is_found_of model.now task.now.cutoff ascent.now)) }
+    ensures { IfOk result (λ chunk. chunk ≡ on_point_of model.now task.now worker progress ascent.now (is_found_of model.now task.now.cutoff ascent.now)) }
 {
     let mut found = List::new(alloc);
     if !is_found(model, task.cutoff, ascent) {

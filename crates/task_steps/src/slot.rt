@@ -1,10 +1,10 @@
-ghost use Rattle.std.specs.Prelude.{◌≡◌, ◌≤◌, ◌<◌, ◌+◌, IfOk, OnOk};
+ghost use Rattle.std.specs.Prelude.{◌≡◌, ◌≤◌, ◌<◌, ◌+◌, is_none, IfOk, OnOk};
 ghost use Rattle.task_steps.specs.Fits.{FitsLocal};
-ghost use Rattle.task_steps.specs.Rules.{begin_of, chunk_of, fresh_local as fresh_local_of, is_none};
+ghost use Rattle.task_steps.specs.Rules.{begin_of, chunk_of, fresh_local as fresh_local_of};
 
 use crate::local::{Local, Task};
 use crate::node_chunk::node_chunk;
-use crate::outcome::Worker;
+use crate::task_chunk::Worker;
 use ip_core::{List, Model, OutOfMemory};
 use node_pool::{Pick, Pool};
 use std::alloc::Global;
@@ -82,12 +82,12 @@ pub fn chunk<P: Pulse>(
         slot: local.slot,
         splits: local.splits,
     };
-    let outcome = node_chunk(alloc, model, worker, task, pulse)?;
-    local.splits = outcome.splits;
-    local.task = outcome.task;
+    let chunk = node_chunk(alloc, model, worker, task, pulse)?;
+    local.splits = chunk.splits;
+    local.task = chunk.task;
     Ok(Chunk {
-        entries: outcome.entries,
-        records: outcome.records,
-        work: outcome.work,
+        entries: chunk.entries,
+        records: chunk.records,
+        work: chunk.work,
     })
 }

@@ -1,5 +1,5 @@
 -- The laws on agreement.
-use Rattle.std.proofs.Common.{◌≡◌, ◌∙◌, ℕ, ◌+◌, ◌-◌, ◌<◌, ◌≤◌, ◌^◌, Bool, true, false, ◌||◌, nat_eq, List, [], ◌∷◌, ◌++◌, length, get_or, set, ℤ, ◌≤ℤ◌, Option, Some, None, refl, sym, subst, arith}
+use Rattle.std.proofs.Common.{◌≡◌, ◌∙◌, ℕ, ◌+◌, ◌-◌, ◌<◌, ◌≤◌, ◌^◌, Bool, true, false, ◌||◌, nat_eq, List, [], ◌∷◌, ◌++◌, length, get_or, set, ℤ, ◌≤ℤ◌, Option, is_none, Some, None, refl, sym, subst, arith}
 use Rattle.std.proofs.lemmas.Bool.{ne_eqb, true≢false}
 use Rattle.std.proofs.lemmas.Int.{ints}
 use Rattle.std.proofs.lemmas.Option.{none-some}
@@ -23,7 +23,7 @@ use Rattle.task_steps.specs.Agrees.{Agrees, MayFollowIn, Stands}
 use Rattle.task_steps.specs.Answers.{best_after, best_found}
 use Rattle.task_steps.specs.Claims.{Claim, HasHold, Held, IsAt, IsAtTask, IsDue, IsOn, IsOwed, IsReady, Meets, claim_after, claims_with, count_left, one_if}
 use Rattle.task_steps.specs.Fits.{FitsLocal, FitsTask, IsTask}
-use Rattle.task_steps.specs.Rules.{begin_of, chunk_of, is_none, rules, task_on}
+use Rattle.task_steps.specs.Rules.{begin_of, chunk_of, rules, task_on}
 use Rattle.task_steps.specs.Tasks.{child_name, next_ordinal}
 use Rattle.task_steps.specs.declared.answer.Best.{Best}
 use Rattle.task_steps.specs.declared.local.Local.{Local}

@@ -1,5 +1,5 @@
 -- What a slot between tasks does.
-use Rattle.std.proofs.Common.{◌≡◌, ℕ, Bool, true, false, ◌||◌, cond, nat_eq, List, [], ◌∷◌, Option, Some, None, All, refl, sym, ap, subst, arith}
+use Rattle.std.proofs.Common.{◌≡◌, ℕ, Bool, true, false, ◌||◌, cond, nat_eq, List, [], ◌∷◌, Option, is_none, Some, None, All, refl, sym, ap, subst, arith}
 use Rattle.std.proofs.lemmas.List.Elements.{All-cons, All-head, All-nil}
 use Rattle.std.proofs.lemmas.Option.{none-some, same_Some}
 use Rattle.ip_core.specs.declared.model.ModelParts.{ModelParts}
@@ -16,7 +16,7 @@ use Rattle.node_pool.specs.declared.node.OpenNode.{OpenNode}
 use Rattle.node_pool.specs.declared.pick.Pick.{Pick}
 use Rattle.node_pool.specs.declared.pick.Pick.TheVariants.{CutLoop, Heuristic, Node, Nothing, Over}
 use Rattle.task_steps.specs.Fits.{FitsLocal, FitsView, IsBoxed}
-use Rattle.task_steps.specs.Rules.{begin_of, begin_by, is_none, task_on}
+use Rattle.task_steps.specs.Rules.{begin_of, begin_by, task_on}
 use Rattle.task_steps.specs.declared.local.Local.{Local}
 use Rattle.task_steps.specs.Lemmas.NameCounts.{ne_from_test}
 
@@ -77,6 +77,7 @@ task_fits m v l node view fits boxed = record {
     word = boxed.word;
     within = boxed.within;
     paired = boxed.paired;
+    begun = omega arith;
     nodes = omega arith;
     cutoff = view.cutoff;
   };

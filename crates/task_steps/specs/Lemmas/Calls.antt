@@ -1,15 +1,15 @@
 -- What the calls of the search leave, apart from the history.
-use Rattle.std.proofs.Common.{◌≡◌, ℕ, ◌<◌, ◌≤◌, ◌^◌, false, Option, Some, None, arith}
+use Rattle.std.proofs.Common.{◌≡◌, ℕ, ◌<◌, ◌≤◌, ◌^◌, false, Option, is_none, Some, None, arith}
 use Rattle.ip_core.specs.Sides.{IsPaired}
 use Rattle.ip_core.specs.Models.{IsModel}
 use Rattle.ip_core.specs.declared.model.ModelParts.{ModelParts}
 use Rattle.work_stamp.specs.Taskers.{HaveWords}
 use Rattle.task_steps.specs.Fits.{FitsLocal, FitsTask}
-use Rattle.task_steps.specs.Rules.{chunk_of, fresh_local, is_none}
+use Rattle.task_steps.specs.Rules.{chunk_of, fresh_local}
 use Rattle.task_steps.specs.declared.local.Local.{Local}
 use Rattle.task_steps.specs.declared.local.Task.{Task}
 use Rattle.task_steps.specs.Lemmas.ChunkWork.{chunk_counts}
-use Rattle.task_steps.specs.Lemmas.Outcomes.{worker_of}
+use Rattle.task_steps.specs.Lemmas.TaskChunks.{worker_of}
 use Rattle.task_steps.specs.Lemmas.Working.{chunk_good}
 
 -- a fresh local fits

@@ -15,15 +15,15 @@ use Rattle.work_stamp.specs.declared.entry.Entry.{Entry}
 use Rattle.work_stamp.specs.declared.entry.Entry.TheVariants.{Found}
 use Rattle.task_steps.specs.Columns.{middle, widest}
 use Rattle.task_steps.specs.Leaves.{weights_of}
-use Rattle.task_steps.specs.Tasks.{after_passes, after_point, ascended, closing, is_found, kept_child, node_chunk, on_point, progress_of, splitting}
+use Rattle.task_steps.specs.Tasks.{after_passes, after_point, ascent_of, closing_chunk, is_found, kept_child, node_chunk, on_point, progress_of, splitting_chunk}
 use Rattle.ip_core.specs.Models.{IsModel}
 use Rattle.task_steps.specs.Lemmas.Counts.{climb_little, passes_work}
 use Rattle.task_steps.specs.declared.local.Task.{Task}
-use Rattle.task_steps.specs.declared.outcome.Outcome.{Outcome}
-use Rattle.task_steps.specs.declared.outcome.Progress.{Progress}
-use Rattle.task_steps.specs.declared.outcome.Worker.{Worker}
+use Rattle.task_steps.specs.declared.task_chunk.TaskChunk.{TaskChunk}
+use Rattle.task_steps.specs.declared.task_chunk.Progress.{Progress}
+use Rattle.task_steps.specs.declared.task_chunk.Worker.{Worker}
 
-choice_work : (b : Bool) (x y : Outcome) (n : ℕ) → x.work ≡ n → y.work ≡ n → (if b then x else y).work ≡ n
+choice_work : (b : Bool) (x y : TaskChunk) (n : ℕ) → x.work ≡ n → y.work ≡ n → (if b then x else y).work ≡ n
 choice_work true x y n first second = first
 choice_work false x y n first second = second
 
@@ -31,7 +31,7 @@ after_point_work : (task : Task) (worker : Worker) (p : Progress) (a : Ascent) (
 after_point_work task worker p a cutoff found =
     let col = widest p.bounds in
     let at = middle p.bounds col in
-    choice_work (int_le cutoff a.bound) (closing task.node worker.splits found p (Bound (weights_of a.mults))) (splitting task worker found cutoff p.work col at (kept_child task.nodes (int_at a.point col) at) a.bound) p.work refl refl
+    choice_work (int_le cutoff a.bound) (closing_chunk task.node worker.splits found p (Bound (weights_of a.mults))) (splitting_chunk task worker found cutoff p.work col at (kept_child task.nodes (int_at a.point col) at) a.bound) p.work refl refl
 
 on_point_work : (m : ModelParts) (task : Task) (worker : Worker) (p : Progress) (a : Ascent) (found : Bool) → (on_point m task worker p a found).work ≡ p.work
 on_point_work m task worker p a true = after_point_work task worker p a (value_at m a.point) (Found (value_at m a.point) a.point ∷ [])
@@ -39,7 +39,7 @@ on_point_work m task worker p a false = after_point_work task worker p a task.cu
 
 open_work : (m : ModelParts) (task : Task) (worker : Worker) (p : Propagation) (o : Ended) → o ≡ ended.Open → ascent_work m [] p.sides ≤ (after_passes m task worker p o).work
 open_work m task worker p o is =
-    let a = ascended m p.sides in
+    let a = ascent_of m p.sides in
     let same = on_point_work m task worker (progress_of p a.work) a (is_found m task.cutoff a) in
     rw is (omega (arith, same))
 
@@ -68,7 +68,7 @@ ascent_allowed m worker task start s run n start_is sides run_is goes allowed =
 
 work_cases : (m : ModelParts) (task : Task) (worker : Worker) (p : Propagation) (o : Ended) → (1 ≤ (after_passes m task worker p o).work) × ((after_passes m task worker p o).work ≤ 1 + p.run.work + ascent_work m [] p.sides)
 work_cases m task worker p ended.Open =
-    let a = ascended m p.sides in
+    let a = ascent_of m p.sides in
     let same = on_point_work m task worker (progress_of p a.work) a (is_found m task.cutoff a) in
     (omega (arith, same), omega (arith, same))
 work_cases m task worker p (ended.Conflict row) = (omega arith, omega arith)

@@ -23,7 +23,7 @@ use Rattle.task_steps.specs.Claims.{count_left, count_name, count_open, one_if}
 use Rattle.task_steps.specs.Fits.{FitsView, IsBoxed}
 use Rattle.task_steps.specs.Lemmas.Entries.{IsNext, makes, next_of}
 use Rattle.task_steps.specs.Lemmas.NameCounts.{eq_from_test, is_among}
-use Rattle.task_steps.specs.Lemmas.Outcomes.{paired_high, paired_low}
+use Rattle.task_steps.specs.Lemmas.TaskChunks.{paired_high, paired_low}
 
 -- nodes that are left have known names
 

@@ -16,7 +16,7 @@ use Rattle.node_pool.specs.Lemmas.Boxes.{boxes_are_parts}
 use Rattle.node_pool.specs.Nodes.{without_name}
 use Rattle.node_pool.specs.Views.{View, after_entry, is_known}
 use Rattle.task_steps.specs.Answers.{best_after}
-use Rattle.task_steps.specs.Claims.{Claim, HasHeld, HasHold, Held, Holds, IsDone, IsDue, IsOwed, IsSplitNow, Meets, claim_after, claims_with, count_left, count_name, count_open, kept_held, kept_of, one_if}
+use Rattle.task_steps.specs.Claims.{Claim, HasHeld, HasHold, Held, Holds, IsDone, IsDue, IsOwed, IsSplitNow, Meets, claim_after, claims_with, count_left, count_name, count_open, child_held, hold_after_split, one_if}
 use Rattle.task_steps.specs.Keeps.{keep_of}
 use Rattle.task_steps.specs.Tasks.{child_name, next_ordinal}
 use Rattle.task_steps.specs.declared.answer.Best.{Best}
@@ -100,7 +100,7 @@ split_once m v node col at first keep bound best claims name false is meets foll
 kept_has : (m : ModelParts) (v : View) (node col : ℕ) (at : ℤ) (first keep : ℕ) (bound : ℤ)
     (h : Held) → box_of m.root v.branches node ≡ h.bounds
     → HasHold m (after_entry v (Split node col at first keep bound))
-    (kept_held h col at first (keep_of keep))
+    (child_held h col at first (keep_of keep))
 kept_has m v node col at first zero bound h same = record {
   held = record {
     among = counts_among first (without_name node v.held_nodes ++ first ∷ [])
@@ -129,7 +129,7 @@ kept_has m v node col at first (suc (suc more)) bound h same = tt
 
 kept_new : (v : View) (h : Held) (col : ℕ) (at : ℤ) (first : ℕ) (keep : Keep) (a : Held)
     → is_known v first ≡ false → is_known v (first + 1) ≡ false
-    → kept_held h col at first keep ≡ Some a → is_known v a.name ≡ false
+    → child_held h col at first keep ≡ Some a → is_known v a.name ≡ false
 kept_new v h col at first Low a one two is =
     subst (λ (n : Held). is_known v n.name ≡ false) (same_Some _ a is) one
 kept_new v h col at first High a one two is =
@@ -263,12 +263,12 @@ module _ (m : ModelParts) (v : View) (best : Option Best) (slot : ℕ) (claims :
       let ordinal = next_ordinal c.splits in
       let node = now.holds.node in
       let d : Claim = record {
-        hold = kept_held node col at first (keep_of keep);
+        hold = child_held node col at first (keep_of keep);
         cutoff = c.cutoff;
         splits = ordinal;
       } in
       let same_claim : claim_after c e ≡ d = ap (λ (o : Option Held). record c {
-        hold = kept_of o col at first (keep_of keep);
+        hold = hold_after_split o col at first (keep_of keep);
         splits = ordinal;
       }) now.holds.is in
       let most : ordinal ≤ 2 ^ 37 = omega arith in

@@ -21,16 +21,16 @@ use Rattle.work_stamp.specs.Writable.{HasWords}
 use Rattle.work_stamp.specs.declared.entry.Entry.TheVariants.{Found}
 use Rattle.task_steps.specs.Fits.{FitsLocal, IsTask}
 use Rattle.task_steps.specs.Points.{is_feasible_at}
-use Rattle.task_steps.specs.Tasks.{after_passes, ascended, is_found, node_chunk, on_point, progress_of}
+use Rattle.task_steps.specs.Tasks.{after_passes, ascent_of, is_found, node_chunk, on_point, progress_of}
 use Rattle.task_steps.specs.declared.local.Local.{Local}
 use Rattle.task_steps.specs.declared.local.Task.{Task}
-use Rattle.task_steps.specs.declared.outcome.Progress.{Progress}
+use Rattle.task_steps.specs.declared.task_chunk.Progress.{Progress}
 use Rattle.task_steps.specs.Lemmas.Bounds.{ascent_above, ascent_low}
 use Rattle.task_steps.specs.Lemmas.Boxes.{passed_small}
 use Rattle.task_steps.specs.Lemmas.Columns.{point_signed}
 use Rattle.task_steps.specs.Lemmas.Feasible.{and_true, both_true, feasible_from_test, test_from_feasible}
 use Rattle.task_steps.specs.Lemmas.NoColumns.{empty_feasible}
-use Rattle.task_steps.specs.Lemmas.Outcomes.{IsGoodOutcome, IsTried, closing_good, found_first, plain_good, worker_of}
+use Rattle.task_steps.specs.Lemmas.TaskChunks.{IsGoodChunk, IsTried, closing_good, found_first, plain_good, worker_of}
 use Rattle.task_steps.specs.Lemmas.Reasons.{closed_by_bound, closed_by_passes, passes_passed}
 
 value_small : (m : ModelParts) (x : List ℤ) → IsModel m → IsFeasible m x → unsigned_abs (value_at m x) ≤ 2 ^ 50
@@ -71,7 +71,7 @@ module _ (m : ModelParts) (l : Local) (task : Task) (valid : IsModel m) (paired 
   passes = propagation_of m.rows [] task.bounds
 
   abbrev climb : Ascent
-  climb = ascended m passes.sides
+  climb = ascent_of m passes.sides
 
   abbrev progress : Progress
   progress = progress_of passes climb.work
@@ -121,7 +121,7 @@ module _ (m : ModelParts) (l : Local) (task : Task) (valid : IsModel m) (paired 
   above_or_below : (a b : ℤ) → (a ≤ℤ b) ⊎ (b <ℤ a)
   above_or_below a b = grind (arith, ints)
 
-  point_cases : (found : Bool) → is_found m task.cutoff climb ≡ found → passes.run.outcome ≡ ended.Open → IsGoodOutcome m l task task.cutoff (on_point m task (worker_of l) progress climb found)
+  point_cases : (found : Bool) → is_found m task.cutoff climb ≡ found → passes.run.outcome ≡ ended.Open → IsGoodChunk m l task task.cutoff (on_point m task (worker_of l) progress climb found)
   point_cases true is goes =
       let point = climb.point in
       let value = value_at m point in
@@ -133,11 +133,11 @@ module _ (m : ModelParts) (l : Local) (task : Task) (valid : IsModel m) (paired 
   point_cases false is goes =
       plain_good m l task progress climb task.cutoff (int_le task.cutoff climb.bound) refl valid (tried task.cutoff goes task_fits.cutoff (λ none. not_found_settled goes is none (above_or_below task.cutoff climb.bound)))
 
-  outcome_cases : (o : Ended) → passes.run.outcome ≡ o → IsGoodOutcome m l task task.cutoff (after_passes m task (worker_of l) passes o)
+  outcome_cases : (o : Ended) → passes.run.outcome ≡ o → IsGoodChunk m l task task.cutoff (after_passes m task (worker_of l) passes o)
   outcome_cases ended.Open is = point_cases (is_found m task.cutoff climb) refl is
   outcome_cases (ended.Conflict row) is = closing_good m l task task.cutoff fits task_fits (closed_by_passes m task.cutoff task.bounds valid columns (λ same. conflict_closed row (sym is ∙ same)))
   outcome_cases (ended.Empty col) is = closing_good m l task task.cutoff fits task_fits (closed_by_passes m task.cutoff task.bounds valid columns (λ same. empty_closed col (sym is ∙ same)))
 
   -- a chunk of a task
-  pub chunk_good : IsGoodOutcome m l task task.cutoff (node_chunk m (worker_of l) task)
+  pub chunk_good : IsGoodChunk m l task task.cutoff (node_chunk m (worker_of l) task)
   chunk_good = outcome_cases passes.run.outcome refl

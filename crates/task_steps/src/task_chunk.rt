@@ -20,7 +20,7 @@ pub struct Progress {
 
 /// A split that a chunk makes: its column and value, the child that is kept, and the bound of both children.
 #[derive(Clone, Copy)]
-pub struct Parting {
+pub struct SplitChoice {
     pub col: u32,
     pub at: i64,
     pub keep: Keep,
@@ -30,7 +30,7 @@ pub struct Parting {
 /// What a chunk gives: its entries, its records and the work that it counts; how the task goes on; and the slot's count
 /// of splits.
 #[derive(Debug, Drop)]
-pub struct Outcome {
+pub struct TaskChunk {
     pub entries: List<Entry>,
     pub records: List<Record>,
     pub work: u64,

@@ -15,20 +15,20 @@ use Rattle.work_stamp.specs.Taskers.{HaveWords}
 use Rattle.work_stamp.specs.Writable.{HasWords, IsSigned}
 use Rattle.work_stamp.specs.declared.entry.Entry.{Entry}
 use Rattle.work_stamp.specs.declared.entry.Entry.TheVariants.{Found, Split, Closed, Done}
-use Rattle.task_steps.specs.Claims.{Claim, Held, IsReady, IsSplitNow, high_held, kept_of, low_held}
+use Rattle.task_steps.specs.Claims.{Claim, Held, IsReady, IsSplitNow, high_held, hold_after_split, low_held}
 use Rattle.dual_ascent.specs.declared.ascent.Ascent.{Ascent}
 use Rattle.task_steps.specs.Columns.{middle, widest}
 use Rattle.task_steps.specs.Fits.{FitsLocal, FitsTask, IsSmall, IsTask}
 use Rattle.task_steps.specs.Leaves.{weights_of}
 use Rattle.task_steps.specs.Keeps.{number_of}
-use Rattle.task_steps.specs.Tasks.{child_name, closing, ending, kept_child, next_ordinal, splitting, task_after}
+use Rattle.task_steps.specs.Tasks.{child_name, closing_chunk, end_entries, kept_child, next_ordinal, splitting_chunk, task_after}
 use Rattle.task_steps.specs.declared.keep.Keep.{Keep}
 use Rattle.task_steps.specs.declared.keep.Keep.TheVariants.{Low, High, Neither}
 use Rattle.task_steps.specs.declared.local.Local.{Local}
 use Rattle.task_steps.specs.declared.local.Task.{Task}
-use Rattle.task_steps.specs.declared.outcome.Outcome.{Outcome}
-use Rattle.task_steps.specs.declared.outcome.Progress.{Progress}
-use Rattle.task_steps.specs.declared.outcome.Worker.{Worker}
+use Rattle.task_steps.specs.declared.task_chunk.TaskChunk.{TaskChunk}
+use Rattle.task_steps.specs.declared.task_chunk.Progress.{Progress}
+use Rattle.task_steps.specs.declared.task_chunk.Worker.{Worker}
 use Rattle.task_steps.specs.Lemmas.Columns.{middle_above, middle_below, signed_between, widest_known}
 use Rattle.task_steps.specs.Lemmas.Feasible.{le_from_test}
 
@@ -52,8 +52,8 @@ pub record IsGood (m : ModelParts) (l : Local) (task : Task) (limit : ℤ) (entr
   pub ready : (slot : ℕ) (c : Claim) → l.slot ≡ slot → l.splits ≡ c.splits → IsOnNode c task → c.cutoff ≡ limit → IsReady m slot c entries after
 
 -- the local after a chunk
-abbrev pub local_after : Local → Outcome → Local
-local_after l outcome = record l { splits = outcome.splits; task = outcome.task }
+abbrev pub local_after : Local → TaskChunk → Local
+local_after l chunk = record l { splits = chunk.splits; task = chunk.task }
 
 -- words
 
@@ -66,10 +66,10 @@ no_words = record { each = All-nil HasWords }
 done_words : HaveWords (Done ∷ [])
 done_words = words_more Done [] (record { writable = tt; in_range = tt }) no_words
 
-ending_words : (keep : Keep) → HaveWords (ending keep)
-ending_words Low = no_words
-ending_words High = no_words
-ending_words Neither = done_words
+end_words : (keep : Keep) → HaveWords (end_entries keep)
+end_words Low = no_words
+end_words High = no_words
+end_words Neither = done_words
 
 keep_few : (keep : Keep) → number_of keep ≤ 2
 keep_few Low = omega arith
@@ -100,9 +100,9 @@ high_goes_on e = cc
 
 task_after_fits : (m : ModelParts) (task : Task) (col : ℕ) (at : ℤ) (first : ℕ) (limit : ℤ) (keep : Keep) → first + 1 < 2 ^ 64 → limit ≤ℤ pos (2 ^ 51) → IsTask m task → (keep ≡ Neither) ⊎ (task.nodes + 1 ≤ 8) → FitsTask m (task_after task col at first limit keep)
 task_after_fits m task col at first limit Low word below fits (inl ends) = absurd (low_goes_on ends)
-task_after_fits m task col at first limit Low word below fits (inr room) = record { word = omega arith; within = within_low_child m.root task.bounds col at fits.within; paired = paired_low task.bounds col at fits.paired; nodes = room; cutoff = below }
+task_after_fits m task col at first limit Low word below fits (inr room) = record { word = omega arith; within = within_low_child m.root task.bounds col at fits.within; paired = paired_low task.bounds col at fits.paired; begun = omega arith; nodes = room; cutoff = below }
 task_after_fits m task col at first limit High word below fits (inl ends) = absurd (high_goes_on ends)
-task_after_fits m task col at first limit High word below fits (inr room) = record { word = word; within = within_high_child m.root task.bounds col at fits.within; paired = paired_high task.bounds col at fits.paired; nodes = room; cutoff = below }
+task_after_fits m task col at first limit High word below fits (inr room) = record { word = word; within = within_high_child m.root task.bounds col at fits.within; paired = paired_high task.bounds col at fits.paired; begun = omega arith; nodes = room; cutoff = below }
 task_after_fits m task col at first limit Neither word below fits room = tt
 
 split_now : (m : ModelParts) (l : Local) (task : Task) (col : ℕ) (at : ℤ) (keep slot : ℕ) (c : Claim) → IsSplitPoint m col at keep → FitsLocal m l → l.slot ≡ slot → l.splits ≡ c.splits → IsOnNode c task
@@ -116,7 +116,7 @@ split_now m l task col at keep slot c cut fits own same on = record {
 
 kept_ready : (m : ModelParts) (l : Local) (task : Task) (limit : ℤ) (col : ℕ) (at bound : ℤ) (keep : Keep) (slot : ℕ) (c : Claim) → IsSplitPoint m col at (number_of keep) → FitsLocal m l
     → FitsLocal m (record l { splits = next_ordinal l.splits; task = task_after task col at (child_name l.slot (next_ordinal l.splits)) limit keep }) → l.slot ≡ slot → l.splits ≡ c.splits → IsOnNode c task → c.cutoff ≡ limit
-    → IsReady m slot c (Split task.node col at (child_name l.slot (next_ordinal l.splits)) (number_of keep) bound ∷ ending keep) (record l { splits = next_ordinal l.splits; task = task_after task col at (child_name l.slot (next_ordinal l.splits)) limit keep })
+    → IsReady m slot c (Split task.node col at (child_name l.slot (next_ordinal l.splits)) (number_of keep) bound ∷ end_entries keep) (record l { splits = next_ordinal l.splits; task = task_after task col at (child_name l.slot (next_ordinal l.splits)) limit keep })
 kept_ready m l task limit col at bound Low slot c cut fits after own same on below =
     let first = child_name l.slot (next_ordinal l.splits) in (
       split_now m l task col at 0 slot c cut fits own same on,
@@ -126,7 +126,7 @@ kept_ready m l task limit col at bound Low slot c cut fits after own same on bel
         splits = ap next_ordinal same;
         task = record {
           node = low_held on.node col at first;
-          is = ap (λ (o : Option Held). kept_of o col at first Low) on.is;
+          is = ap (λ (o : Option Held). hold_after_split o col at first Low) on.is;
           named = refl;
           boxed = ap (λ (s : Sides). low_child s col at) on.boxed;
           cutoff = below;
@@ -142,7 +142,7 @@ kept_ready m l task limit col at bound High slot c cut fits after own same on be
         splits = ap next_ordinal same;
         task = record {
           node = high_held on.node col at first;
-          is = ap (λ (o : Option Held). kept_of o col at first High) on.is;
+          is = ap (λ (o : Option Held). hold_after_split o col at first High) on.is;
           named = refl;
           boxed = ap (λ (s : Sides). high_child s col at) on.boxed;
           cutoff = below;
@@ -158,13 +158,13 @@ kept_ready m l task limit col at bound Neither slot c cut fits after own same on
           fits = after;
           own = own;
           splits = ap next_ordinal same;
-          task = ap (λ (o : Option Held). kept_of o col at first Neither) on.is;
+          task = ap (λ (o : Option Held). hold_after_split o col at first Neither) on.is;
         },
       ),
     )
 
 splitting_good : (m : ModelParts) (l : Local) (task : Task) (limit : ℤ) (col : ℕ) (at bound : ℤ) (keep : Keep) → IsModel m → FitsLocal m l → IsTask m task → IsSplitPoint m col at (number_of keep) → IsSigned bound → limit ≤ℤ pos (2 ^ 51) → (keep ≡ Neither) ⊎ (task.nodes + 1 ≤ 8)
-    → IsGood m l task limit (Split task.node col at (child_name l.slot (next_ordinal l.splits)) (number_of keep) bound ∷ ending keep) (record l { splits = next_ordinal l.splits; task = task_after task col at (child_name l.slot (next_ordinal l.splits)) limit keep })
+    → IsGood m l task limit (Split task.node col at (child_name l.slot (next_ordinal l.splits)) (number_of keep) bound ∷ end_entries keep) (record l { splits = next_ordinal l.splits; task = task_after task col at (child_name l.slot (next_ordinal l.splits)) limit keep })
 splitting_good m l task limit col at bound keep valid fits task_fits cut signed low room =
     let first = child_name l.slot (next_ordinal l.splits) in
     let few_slots = fits.slot in
@@ -176,7 +176,7 @@ splitting_good m l task limit col at bound keep valid fits task_fits cut signed 
     record { slot = fits.slot; few = omega arith; task = task_after_fits m task col at first limit keep word low task_fits room } in
     record {
       fits = after;
-      words = words_more (Split task.node col at first (number_of keep) bound) (ending keep)
+      words = words_more (Split task.node col at first (number_of keep) bound) (end_entries keep)
           (record {
             writable = keep_few keep;
             in_range = record {
@@ -187,7 +187,7 @@ splitting_good m l task limit col at bound keep valid fits task_fits cut signed 
               keep_byte = let small = keep_few keep in omega arith;
               bound_signed = signed;
             };
-          }) (ending_words keep);
+          }) (end_words keep);
       ready = λ slot c own same on below. kept_ready m l task limit col at bound keep slot c cut fits after own same on below;
     }
 
@@ -211,8 +211,8 @@ kept_room nodes value at few = room_cases value at nodes (nodes == 8) few refl
 abbrev pub worker_of : Local → Worker
 worker_of l = record { slot = l.slot; splits = l.splits }
 
-abbrev pub IsGoodOutcome : ModelParts → Local → Task → ℤ → Outcome → Type 0
-IsGoodOutcome m l task limit o = IsGood m l task limit o.entries (local_after l o)
+abbrev pub IsGoodChunk : ModelParts → Local → Task → ℤ → TaskChunk → Type 0
+IsGoodChunk m l task limit o = IsGood m l task limit o.entries (local_after l o)
 
 not_below : (a b : ℤ) → int_le a b ≡ false → b <ℤ a
 not_below a b h = grind (arith, ints)
@@ -232,7 +232,7 @@ pub record IsTried (m : ModelParts) (l : Local) (task : Task) (p : Progress) (a 
   pub some : a.bound <ℤ limit → 0 < length m.cols
 
 split_good : (m : ModelParts) (l : Local) (task : Task) (p : Progress) (a : Ascent) (limit : ℤ) → IsModel m → IsTried m l task p a limit → int_le limit a.bound ≡ false
-    → IsGoodOutcome m l task limit (splitting task (worker_of l) [] limit p.work (widest p.bounds) (middle p.bounds (widest p.bounds)) (kept_child task.nodes (int_at a.point (widest p.bounds)) (middle p.bounds (widest p.bounds))) a.bound)
+    → IsGoodChunk m l task limit (splitting_chunk task (worker_of l) [] limit p.work (widest p.bounds) (middle p.bounds (widest p.bounds)) (kept_child task.nodes (int_at a.point (widest p.bounds)) (middle p.bounds (widest p.bounds))) a.bound)
 split_good m l task p a limit valid tried is =
     let s = p.bounds in
     let col = widest s in
@@ -247,13 +247,13 @@ split_good m l task p a limit valid tried is =
 
 -- with no point found
 pub plain_good : (m : ModelParts) (l : Local) (task : Task) (p : Progress) (a : Ascent) (limit : ℤ) (closed : Bool) → int_le limit a.bound ≡ closed → IsModel m → IsTried m l task p a limit
-    → IsGoodOutcome m l task limit (cond closed (closing task.node l.splits [] p (Bound (weights_of a.mults))) (splitting task (worker_of l) [] limit p.work (widest p.bounds) (middle p.bounds (widest p.bounds)) (kept_child task.nodes (int_at a.point (widest p.bounds)) (middle p.bounds (widest p.bounds))) a.bound))
+    → IsGoodChunk m l task limit (cond closed (closing_chunk task.node l.splits [] p (Bound (weights_of a.mults))) (splitting_chunk task (worker_of l) [] limit p.work (widest p.bounds) (middle p.bounds (widest p.bounds)) (kept_child task.nodes (int_at a.point (widest p.bounds)) (middle p.bounds (widest p.bounds))) a.bound))
 plain_good m l task p a limit true is valid tried = closing_good m l task limit tried.fits tried.task_fits (tried.closed (le_from_test limit a.bound is))
 plain_good m l task p a limit false is valid tried = split_good m l task p a limit valid tried is
 
 -- with a point found first, whose value is the cutoff from then on
 pub found_first : (m : ModelParts) (l : Local) (task : Task) (p : Progress) (a : Ascent) (value : ℤ) (point : List ℤ) (closed : Bool) → int_le value a.bound ≡ closed → IsModel m → IsTried m l task p a value → IsValued m value point → HasWords (Found value point)
-    → IsGoodOutcome m l task task.cutoff (cond closed (closing task.node l.splits (Found value point ∷ []) p (Bound (weights_of a.mults))) (splitting task (worker_of l) (Found value point ∷ []) value p.work (widest p.bounds) (middle p.bounds (widest p.bounds)) (kept_child task.nodes (int_at a.point (widest p.bounds)) (middle p.bounds (widest p.bounds))) a.bound))
+    → IsGoodChunk m l task task.cutoff (cond closed (closing_chunk task.node l.splits (Found value point ∷ []) p (Bound (weights_of a.mults))) (splitting_chunk task (worker_of l) (Found value point ∷ []) value p.work (widest p.bounds) (middle p.bounds (widest p.bounds)) (kept_child task.nodes (int_at a.point (widest p.bounds)) (middle p.bounds (widest p.bounds))) a.bound))
 found_first m l task p a value point true is valid tried valued words =
     found_good m l task task.cutoff value point (Closed task.node ∷ Done ∷ []) (record l { task = None }) valued words (closing_good m l task value tried.fits tried.task_fits (tried.closed (le_from_test value a.bound is)))
 found_first m l task p a value point false is valid tried valued words =

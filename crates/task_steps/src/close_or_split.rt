@@ -1,7 +1,7 @@
 ghost use Rattle.std.specs.Prelude.{◌≡◌, ◌≤◌, ◌<◌, ◌^◌, ◌<ℤ◌, ◌≤ℤ◌, ◌+◌, pos, neg_ℤ, length, IfOk};
-ghost use Rattle.search_truth.specs.Boxes.{high_child as high_child_of, low_child as low_child_of};
+ghost use Rattle.node_pool.specs.BoundChanges.{with_change};
 ghost use Rattle.task_steps.specs.Fits.{IsSmall, IsWorker};
-ghost use Rattle.task_steps.specs.Tasks.{after_point as after_point_of, closing as closing_of, kept_child as kept_child_of, splitting as splitting_of, task_after as task_after_of};
+ghost use Rattle.task_steps.specs.Tasks.{after_point as after_point_of, closing_chunk as closing_chunk_of, kept_child as kept_child_of, splitting_chunk as splitting_chunk_of, task_after as task_after_of};
 ghost use Rattle.task_steps.specs.declared.keep.Keep.TheVariants.{Neither};
 
 use crate::column::{end_at, middle, widest};
@@ -9,9 +9,10 @@ use crate::keep::Keep;
 use crate::leaf::{record_of, weights_of};
 use crate::local::Task;
 use crate::naming::{child_name, next_ordinal};
-use crate::outcome::{Outcome, Parting, Progress, Worker};
+use crate::task_chunk::{Progress, SplitChoice, TaskChunk, Worker};
 use dual_ascent::Ascent;
 use ip_core::{Bounds, Closing, List, OutOfMemory};
+use node_pool::BoundChange;
 use std::alloc::Global;
 use work_stamp::Entry;
 
@@ -25,17 +26,17 @@ pub fn after_point(
     ascent: &Ascent,
     cutoff: i64,
     found: List<Entry>,
-) -> Result<Outcome, OutOfMemory>
+) -> Result<TaskChunk, OutOfMemory>
     requires small { IsSmall progress.bounds }
     requires nodes { task.now.nodes ≤ 8 }
     requires worker { IsWorker worker }
     requires few { length ascent.now.mults < 2 ^ 32 }
     requires low { neg_ℤ (pos (2 ^ 62)) ≤ℤ ascent.now.bound }
-    ensures { IfOk result (λ outcome. outcome ≡ after_point_of task.now worker progress ascent.now cutoff found) }
+    ensures { IfOk result (λ chunk. chunk ≡ after_point_of task.now worker progress ascent.now cutoff found) }
 {
     if i128::from(cutoff) <= ascent.bound {
         let weights = weights_of(alloc, ascent.mults.as_slice())?;
-        return closing(
+        return closing_chunk(
             alloc,
             task.node,
             worker.splits,
@@ -47,13 +48,13 @@ pub fn after_point(
     let col = widest(&progress.bounds);
     let at = middle(&progress.bounds, col);
     let keep = kept_child(task.nodes, end_at(ascent.point.values(), col as usize), at);
-    let parting = Parting {
+    let choice = SplitChoice {
         col,
         at,
         keep,
         bound: word_of(ascent.bound),
     };
-    splitting(alloc, task, worker, found, cutoff, progress.work, parting)
+    splitting_chunk(alloc, task, worker, found, cutoff, progress.work, choice)
 }
 
 /// A bound as a number of 64 bits, which it fits.
@@ -79,22 +80,22 @@ fn kept_child(nodes: u32, value: i64, at: i64) -> Keep
 }
 
 /// The node is done with for a reason that is kept, and the task ends.
-pub fn closing(
+pub fn closing_chunk(
     alloc: Global,
     node: u64,
     splits: u64,
     found: List<Entry>,
     progress: Progress,
     why: Closing,
-) -> Result<Outcome, OutOfMemory>
-    ensures { IfOk result (λ outcome. outcome ≡ closing_of node splits found progress why) }
+) -> Result<TaskChunk, OutOfMemory>
+    ensures { IfOk result (λ chunk. chunk ≡ closing_chunk_of node splits found progress why) }
 {
     let mut entries = found;
     entries.push(Entry::Closed { node })?;
     entries.push(Entry::Done)?;
     let mut records = List::new(alloc);
     records.push(record_of(node, progress.steps, why))?;
-    Ok(Outcome {
+    Ok(TaskChunk {
         entries,
         records,
         work: progress.work,
@@ -104,39 +105,39 @@ pub fn closing(
 }
 
 /// The node is split, and the task goes on with the kept child.
-fn splitting(
+fn splitting_chunk(
     alloc: Global,
     task: &Task,
     worker: Worker,
     found: List<Entry>,
     cutoff: i64,
     work: u64,
-    parting: Parting,
-) -> Result<Outcome, OutOfMemory>
-    requires small { parting.at <ℤ pos (2 ^ 62) }
+    choice: SplitChoice,
+) -> Result<TaskChunk, OutOfMemory>
+    requires small { choice.at <ℤ pos (2 ^ 62) }
     requires nodes { task.now.nodes ≤ 8 }
     requires worker { IsWorker worker }
-    ensures { IfOk result (λ outcome. outcome ≡ splitting_of task.now worker found cutoff work parting.col parting.at parting.keep parting.bound) }
+    ensures { IfOk result (λ chunk. chunk ≡ splitting_chunk_of task.now worker found cutoff work choice.col choice.at choice.keep choice.bound) }
 {
     let splits = next_ordinal(worker.splits);
     let first = child_name(worker.slot, splits);
     let mut entries = found;
     entries.push(Entry::Split {
         node: task.node,
-        col: parting.col,
-        at: parting.at,
+        col: choice.col,
+        at: choice.at,
         first,
-        keep: parting.keep.number(),
-        bound: parting.bound,
+        keep: choice.keep.number(),
+        bound: choice.bound,
     })?;
-    if let Keep::Neither = parting.keep {
+    if let Keep::Neither = choice.keep {
         entries.push(Entry::Done)?;
     }
-    Ok(Outcome {
+    Ok(TaskChunk {
         entries,
         records: List::new(alloc),
         work,
-        task: task_after(alloc, task, cutoff, first, parting)?,
+        task: task_after(alloc, task, cutoff, first, choice)?,
         splits,
     })
 }
@@ -147,24 +148,20 @@ fn task_after(
     task: &Task,
     cutoff: i64,
     first: u64,
-    parting: Parting,
+    choice: SplitChoice,
 ) -> Result<Option<Task>, OutOfMemory>
-    requires small { parting.at <ℤ pos (2 ^ 62) }
+    requires small { choice.at <ℤ pos (2 ^ 62) }
     requires room { first + 1 < 2 ^ 64 }
     requires nodes { task.now.nodes ≤ 8 }
-    ensures { IfOk result (λ after. after ≡ task_after_of task.now parting.col parting.at first cutoff parting.keep) }
+    ensures { IfOk result (λ after. after ≡ task_after_of task.now choice.col choice.at first cutoff choice.keep) }
 {
-    let (node, bounds) = match parting.keep {
-        Keep::Low => (
-            first,
-            low_child(alloc, &task.bounds, parting.col, parting.at)?,
-        ),
-        Keep::High => (
-            first + 1,
-            high_child(alloc, &task.bounds, parting.col, parting.at)?,
-        ),
+    let SplitChoice { col, at, keep, .. } = choice;
+    let (node, change) = match keep {
+        Keep::Low => (first, BoundChange::High { col, high: at }),
+        Keep::High => (first + 1, BoundChange::Low { col, low: at + 1 }),
         Keep::Neither => return Ok(None),
     };
+    let bounds = child_box(alloc, &task.bounds, change)?;
     Ok(Some(Task {
         node,
         bounds,
@@ -173,25 +170,11 @@ fn task_after(
     }))
 }
 
-/// A box of which a column's high is lowered to `at`.
-fn low_child(alloc: Global, bounds: &Bounds, col: u32, at: i64) -> Result<Bounds, OutOfMemory>
-    ensures { IfOk result (λ child. child ≡ low_child_of bounds.now col at) }
+/// The box of a child: the node's box with one end of one column changed.
+fn child_box(alloc: Global, bounds: &Bounds, change: BoundChange) -> Result<Bounds, OutOfMemory>
+    ensures { IfOk result (λ child. child ≡ with_change change bounds.now) }
 {
     let mut child = bounds.copy(alloc)?;
-    if (col as usize) < child.lows().len() {
-        child.cut_high(col, at);
-    }
-    Ok(child)
-}
-
-/// A box of which a column's low is raised above `at`.
-fn high_child(alloc: Global, bounds: &Bounds, col: u32, at: i64) -> Result<Bounds, OutOfMemory>
-    requires { at <ℤ pos (2 ^ 62) }
-    ensures { IfOk result (λ child. child ≡ high_child_of bounds.now col at) }
-{
-    let mut child = bounds.copy(alloc)?;
-    if (col as usize) < child.lows().len() {
-        child.cut_low(col, at + 1);
-    }
+    change.apply(&mut child);
     Ok(child)
 }
