@@ -160,7 +160,8 @@ splitting_quiet : (task : Task) (worker : Worker) (found : List Entry) (cutoff :
 splitting_quiet task worker found cutoff work col at keep bound h =
     let split : Entry = Split task.node col at
     (child_name worker.slot (next_ordinal worker.splits)) (number_of keep) bound in
-    no_halt-append (found ++ split ∷ []) (end_entries keep) (no_halt-append found (split ∷ []) h refl)
+    no_halt-append (found ++ split ∷ []) (end_entries keep)
+    (no_halt-append found (split ∷ []) h refl)
     (end_quiet keep)
 
 after_point_quiet : (task : Task) (worker : Worker) (p : Progress) (a : Ascent) (cutoff : ℤ)

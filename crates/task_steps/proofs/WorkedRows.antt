@@ -24,7 +24,16 @@ abbrev unit : Sides
 unit = record { lows = pos 0 ∷ []; highs = pos 1 ∷ [] }
 
 abbrev pub free : ModelParts
-free = record { name = []; cols = (120 ∷ []) ∷ []; costs = pos 1 ∷ []; constant = pos 0; decimals = 0; maximise = false; root = unit; rows = [] }
+free = record {
+  name = [];
+  cols = (120 ∷ []) ∷ [];
+  costs = pos 1 ∷ [];
+  constant = pos 0;
+  decimals = 0;
+  maximise = false;
+  root = unit;
+  rows = [];
+}
 
 -- one pass and twelve rounds; the ends are a point that is found, and its value closes the node
 pub found_at_once : node_chunk free (worker 0) (task 0 unit (pos 2) 1) ≡ record {
@@ -34,12 +43,20 @@ pub found_at_once : node_chunk free (worker 0) (task 0 unit (pos 2) 1) ≡ recor
   task = None;
   splits = 0;
 }
-unfolding Rattle.row_propagate.specs.Passes.after_passes Rattle.dual_ascent.specs.Ascents.ascent Rattle.dual_ascent.specs.Climbs.climbed Rattle.dual_ascent.specs.Climbs.after_round Rattle.dual_ascent.specs.Climbs.after_rows Rattle.safe_bound.specs.Bounds.numerator Rattle.safe_bound.specs.Bounds.reduced_cost
+unfolding Rattle.row_propagate.specs.Passes.after_passes Rattle.dual_ascent.specs.Ascents.ascent
+    Rattle.dual_ascent.specs.Climbs.climbed Rattle.dual_ascent.specs.Climbs.after_round
+    Rattle.dual_ascent.specs.Climbs.after_rows Rattle.safe_bound.specs.Bounds.numerator
+    Rattle.safe_bound.specs.Bounds.reduced_cost
 found_at_once = refl
 
 -- 2x + 2y + 2z = 3 in 0 to 1, as two rows, without costs
 abbrev sum_row : ℤ → ℤ → Row
-sum_row c least = record { terms = record { col = 0; coef = c } ∷ record { col = 1; coef = c } ∷ record { col = 2; coef = c } ∷ []; least = least }
+sum_row c least =
+    record {
+      terms = record { col = 0; coef = c } ∷ record { col = 1; coef = c }
+          ∷ record { col = 2; coef = c } ∷ [];
+      least = least;
+    }
 
 abbrev units : Sides
 units = record { lows = pos 0 ∷ pos 0 ∷ pos 0 ∷ []; highs = pos 1 ∷ pos 1 ∷ pos 1 ∷ [] }
@@ -56,25 +73,35 @@ odd = record {
   rows = sum_row (pos 2) (pos 3) ∷ sum_row (negsuc 1) (negsuc 2) ∷ [];
 }
 
--- one pass of 7 and eleven rounds of 19: the first column is split, and the task goes on with its low child
+-- one pass of 7 and eleven rounds of 19: the first column is split, and the task goes on with its
+-- low child
 pub first_split : node_chunk odd (worker 0) (task 0 units (pos 1) 1) ≡ record {
   entries = Split 0 0 (pos 0) 4 0 (pos 0) ∷ [];
   records = [];
   work = 217;
-  task = Some (task 4 (record { lows = pos 0 ∷ pos 0 ∷ pos 0 ∷ []; highs = pos 0 ∷ pos 1 ∷ pos 1 ∷ [] }) (pos 1) 2);
+  task = Some (task 4
+      (record { lows = pos 0 ∷ pos 0 ∷ pos 0 ∷ []; highs = pos 0 ∷ pos 1 ∷ pos 1 ∷ [] }) (pos 1) 2);
   splits = 1;
 }
-unfolding Rattle.row_propagate.specs.Passes.after_passes Rattle.dual_ascent.specs.Ascents.ascent Rattle.dual_ascent.specs.Climbs.climbed Rattle.dual_ascent.specs.Climbs.after_round Rattle.dual_ascent.specs.Climbs.after_rows Rattle.safe_bound.specs.Bounds.numerator Rattle.safe_bound.specs.Bounds.reduced_cost
+unfolding Rattle.row_propagate.specs.Passes.after_passes Rattle.dual_ascent.specs.Ascents.ascent
+    Rattle.dual_ascent.specs.Climbs.climbed Rattle.dual_ascent.specs.Climbs.after_round
+    Rattle.dual_ascent.specs.Climbs.after_rows Rattle.safe_bound.specs.Bounds.numerator
+    Rattle.safe_bound.specs.Bounds.reduced_cost
 first_split = refl
 
--- there the first row raises two lows, and the second then asks for too much: the passes close the node
-pub low_child_closed : node_chunk odd (worker 1) (task 4 (record { lows = pos 0 ∷ pos 0 ∷ pos 0 ∷ []; highs = pos 0 ∷ pos 1 ∷ pos 1 ∷ [] }) (pos 1) 2) ≡ record {
-  entries = Closed 4 ∷ Done ∷ [];
-  records = record_of 4 (record { row = Model 0; col = 1; low = true } ∷ record { row = Model 0; col = 2; low = true } ∷ []) (Conflict (Model 1)) ∷ [];
-  work = 8;
-  task = None;
-  splits = 1;
-}
+-- there the first row raises two lows, and the second then asks for too much: the passes close the
+-- node
+pub low_child_closed : node_chunk odd (worker 1)
+    (task 4 (record { lows = pos 0 ∷ pos 0 ∷ pos 0 ∷ []; highs = pos 0 ∷ pos 1 ∷ pos 1 ∷ [] })
+    (pos 1) 2) ≡ record {
+      entries = Closed 4 ∷ Done ∷ [];
+      records = record_of 4
+          (record { row = Model 0; col = 1; low = true }
+          ∷ record { row = Model 0; col = 2; low = true } ∷ []) (Conflict (Model 1)) ∷ [];
+      work = 8;
+      task = None;
+      splits = 1;
+    }
 unfolding Rattle.row_propagate.specs.Passes.after_passes
 low_child_closed = refl
 
@@ -90,5 +117,6 @@ pub last_ordinal : next_ordinal 137438953472 ≡ 137438953472
 last_ordinal = refl
 
 -- rows of multiplier 0 are left out
-pub some_weights : weights_of (0 ∷ 7 ∷ 0 ∷ 2 ∷ []) ≡ record { row = Model 1; weight = 7 } ∷ record { row = Model 3; weight = 2 } ∷ []
+pub some_weights : weights_of (0 ∷ 7 ∷ 0 ∷ 2 ∷ [])
+    ≡ record { row = Model 1; weight = 7 } ∷ record { row = Model 3; weight = 2 } ∷ []
 some_weights = refl

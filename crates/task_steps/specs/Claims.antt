@@ -24,8 +24,8 @@ pub record Held : Type 0 where
   pub name : ℕ
   pub bounds : Sides
 
--- A slot's claim on the history: the node that it holds, a value that is not below the cutoff, and how many of its splits
--- have joined.
+-- A slot's claim on the history: the node that it holds, a value that is not below the cutoff, and
+-- how many of its splits have joined.
 pub record Claim : Type 0 where
   pub hold : Option Held
   pub cutoff : ℤ
@@ -110,7 +110,11 @@ claim_after c (HeurStart node) = c
 claim_after c Done = c
 claim_after c (Found value point) = record c { cutoff = value }
 claim_after c (Cut derivation) = c
-claim_after c (Split node col at first keep bound) = record c { hold = hold_after_split c.hold col at first (keep_of keep); splits = next_ordinal c.splits }
+claim_after c (Split node col at first keep bound) =
+    record c {
+      hold = hold_after_split c.hold col at first (keep_of keep);
+      splits = next_ordinal c.splits;
+    }
 claim_after c (Closed node) = record c { hold = None }
 claim_after c Halt = c
 
@@ -126,7 +130,8 @@ pub record IsDone (m : ModelParts) (c : Claim) (name : ℕ) : Type 0 where
   pub closed : IsClosed m c.cutoff holds.node.bounds
 
 -- the node that is held is split under the slot's next names
-pub record IsSplitNow (m : ModelParts) (slot : ℕ) (c : Claim) (name col : ℕ) (at : ℤ) (first keep : ℕ) : Type 0 where
+pub record IsSplitNow (m : ModelParts) (slot : ℕ) (c : Claim) (name col : ℕ) (at : ℤ)
+    (first keep : ℕ) : Type 0 where
   pub holds : Holds c name
   pub cut : IsSplitPoint m col at keep
   pub few_slots : slot < 64
@@ -164,7 +169,8 @@ pub record IsAt (m : ModelParts) (slot : ℕ) (c : Claim) (l : Local) : Type 0 w
   pub splits : l.splits ≡ c.splits
   pub task : IsAtTask c l.task
 
--- each pending entry is due when those before it have joined, and after the last one the slot stands at its claim
+-- each pending entry is due when those before it have joined, and after the last one the slot
+-- stands at its claim
 abbrev pub IsReady : ModelParts → ℕ → Claim → List Entry → Local → Type 0
 IsReady m slot c [] l = IsAt m slot c l
 IsReady m slot c (e ∷ es) l = IsDue m slot c e × IsReady m slot (claim_after c e) es l

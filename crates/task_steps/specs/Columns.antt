@@ -11,7 +11,10 @@ width_at s j = int_at s.highs j -ℤ int_at s.lows j
 -- the widest of the first n columns, and the first of several
 abbrev pub widest_below : Sides → ℕ → ℕ
 widest_below s zero = 0
-widest_below s (suc n) = if int_lt (width_at s (widest_below s n)) (width_at s n) then n else widest_below s n
+widest_below s (suc n) =
+    if int_lt (width_at s (widest_below s n)) (width_at s n)
+    then n
+    else widest_below s n
 
 -- the column at which a box is split
 abbrev pub widest : Sides → ℕ

@@ -1,5 +1,6 @@
--- What the law of the search stands on. These lemmas stand here and not in proofs/, since the law is a part of what the calls
--- promise, and such a part cites definitions and lemmas of specs/ alone.
+-- What the law of the search stands on. These lemmas stand here and not in proofs/, since the law
+-- is a part of what the calls promise, and such a part cites definitions and lemmas of specs/
+-- alone.
 pub mod Feasible
 pub mod PassRuns
 pub mod Reasons

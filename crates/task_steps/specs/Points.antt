@@ -14,7 +14,9 @@ all_below (suc n) test = all_below n test && test n
 
 -- whether a point lies in a box
 abbrev pub is_inside_at : Sides → List ℤ → Bool
-is_inside_at s x = all_below (length x) (λ j. int_le (int_at s.lows j) (int_at x j) && int_le (int_at x j) (int_at s.highs j))
+is_inside_at s x =
+    all_below (length x)
+    (λ j. int_le (int_at s.lows j) (int_at x j) && int_le (int_at x j) (int_at s.highs j))
 
 -- whether a point meets a row
 abbrev pub is_met_at : List ℤ → Row → Bool
@@ -22,4 +24,5 @@ is_met_at x row = int_le row.least (activity x row.terms)
 
 -- whether a point is feasible
 abbrev pub is_feasible_at : ModelParts → List ℤ → Bool
-is_feasible_at m x = nat_eq (length x) (length m.cols) && is_inside_at m.root x && list_all (is_met_at x) m.rows
+is_feasible_at m x =
+    nat_eq (length x) (length m.cols) && is_inside_at m.root x && list_all (is_met_at x) m.rows

@@ -22,13 +22,15 @@ fresh_local slot = record { slot = slot; splits = 0; task = None }
 
 -- a task on a node of the view, with the node's box and the cutoff of the view at its start
 abbrev pub task_on : ModelParts → View → ℕ → Task
-task_on m v node = record { node = node; bounds = box_of m.root v.branches node; cutoff = v.cutoff; nodes = 1 }
+task_on m v node =
+    record { node = node; bounds = box_of m.root v.branches node; cutoff = v.cutoff; nodes = 1 }
 
--- what a slot does for its pick: it takes the node, waits where nothing is open, and else is over. A search without cuts and
--- without dives has no other pick, and would wait.
+-- what a slot does for its pick: it takes the node, waits where nothing is open, and is over where
+-- the search is; a search by splits alone has no other pick
 abbrev pub begin_by : ModelParts → View → Local → Pick → AfterBegin Local
 begin_by m v l Over = record { does = End; local = l }
-begin_by m v l (Node node) = record { does = Take (Start node ∷ []); local = record l { task = Some (task_on m v node) } }
+begin_by m v l (Node node) =
+    record { does = Take (Start node ∷ []); local = record l { task = Some (task_on m v node) } }
 begin_by m v l Nothing = record { does = Idle; local = l }
 begin_by m v l CutLoop = record { does = Idle; local = l }
 begin_by m v l (Heuristic node) = record { does = Idle; local = l }
@@ -46,8 +48,10 @@ after_chunk l chunk = record {
 
 -- a chunk of the slot's task; without a task nothing happens
 abbrev pub chunk_of : ModelParts → Local → Option Task → AfterChunk Local
-chunk_of m l None = after_chunk l (record { entries = []; records = []; work = 0; task = None; splits = l.splits })
-chunk_of m l (Some task) = after_chunk l (node_chunk m (record { slot = l.slot; splits = l.splits }) task)
+chunk_of m l None =
+    after_chunk l (record { entries = []; records = []; work = 0; task = None; splits = l.splits })
+chunk_of m l (Some task) =
+    after_chunk l (node_chunk m (record { slot = l.slot; splits = l.splits }) task)
 
 -- the definitions of the search
 abbrev pub rules : ModelParts → SearchSettings → Rules View Local

@@ -26,11 +26,13 @@ use Rattle.task_steps.specs.declared.task_chunk.TaskChunk.{TaskChunk}
 use Rattle.task_steps.specs.declared.task_chunk.Progress.{Progress}
 use Rattle.task_steps.specs.declared.task_chunk.Worker.{Worker}
 
--- the ordinal of a slot's next split: splits are counted from 1, and the count stays at 2^37 once it is there
+-- the ordinal of a slot's next split: splits are counted from 1, and the count stays at 2^37 once
+-- it is there
 abbrev pub next_ordinal : ℕ → ℕ
 next_ordinal splits = min (splits + 1) (2 ^ 37)
 
--- the name that a slot gives to the first child of the split of an ordinal; the second child has the next name
+-- the name that a slot gives to the first child of the split of an ordinal; the second child has
+-- the next name
 abbrev pub child_name : ℕ → ℕ → ℕ
 child_name slot ordinal = slot * 2 ^ 40 + 4 * ordinal
 
@@ -50,8 +52,20 @@ kept_child nodes value at = if nodes == 8 then Neither else (if int_le value at 
 
 -- the task on the child that is kept: its box is the node's, cut by the split
 abbrev pub task_after : Task → ℕ → ℤ → ℕ → ℤ → Keep → Option Task
-task_after task col at first cutoff Low = Some (record { node = first; bounds = low_child task.bounds col at; cutoff = cutoff; nodes = task.nodes + 1 })
-task_after task col at first cutoff High = Some (record { node = first + 1; bounds = high_child task.bounds col at; cutoff = cutoff; nodes = task.nodes + 1 })
+task_after task col at first cutoff Low =
+    Some (record {
+      node = first;
+      bounds = low_child task.bounds col at;
+      cutoff = cutoff;
+      nodes = task.nodes + 1;
+    })
+task_after task col at first cutoff High =
+    Some (record {
+      node = first + 1;
+      bounds = high_child task.bounds col at;
+      cutoff = cutoff;
+      nodes = task.nodes + 1;
+    })
 task_after task col at first cutoff Neither = None
 
 -- a task that keeps no child has ended
@@ -65,26 +79,30 @@ splitting_chunk task worker found cutoff work col at keep bound =
     let ordinal = next_ordinal worker.splits in
     let first = child_name worker.slot ordinal in
     record {
-      entries = found ++ Split task.node col at first (number_of keep) bound ∷ [] ++ end_entries keep;
+      entries =
+          found ++ Split task.node col at first (number_of keep) bound ∷ [] ++ end_entries keep;
       records = [];
       work = work;
       task = task_after task col at first cutoff keep;
       splits = ordinal;
     }
 
--- after the point was tried: the node is closed where its bound is no longer below the cutoff, else split in the widest column
--- of the box after the passes
+-- after the point was tried: the node is closed where its bound is no longer below the cutoff, else
+-- split in the widest column of the box after the passes
 abbrev pub after_point : Task → Worker → Progress → Ascent → ℤ → List Entry → TaskChunk
 after_point task worker p a cutoff found =
     let col = widest p.bounds in
     let at = middle p.bounds col in
     if int_le cutoff a.bound
     then closing_chunk task.node worker.splits found p (Bound (weights_of a.mults))
-    else splitting_chunk task worker found cutoff p.work col at (kept_child task.nodes (int_at a.point col) at) a.bound
+    else splitting_chunk task worker found cutoff p.work col at
+    (kept_child task.nodes (int_at a.point col) at) a.bound
 
--- whether the point is found: the bound is below the cutoff, and the point is feasible with a value below it
+-- whether the point is found: the bound is below the cutoff, and the point is feasible with a value
+-- below it
 abbrev pub is_found : ModelParts → ℤ → Ascent → Bool
-is_found m cutoff a = int_lt a.bound cutoff && (is_feasible_at m a.point && int_lt (value_at m a.point) cutoff)
+is_found m cutoff a =
+    int_lt a.bound cutoff && (is_feasible_at m a.point && int_lt (value_at m a.point) cutoff)
 
 -- a point that is found lowers the task's cutoff
 abbrev pub on_point : ModelParts → Task → Worker → Progress → Ascent → Bool → TaskChunk
@@ -97,7 +115,12 @@ on_point m task worker p a found =
 abbrev pub ascent_of : ModelParts → Sides → Ascent
 ascent_of m s =
     let ys = (ascent m [] s).mults in
-    record { mults = ys; bound = lagrangian_bound m [] s ys; point = bound_point m [] s ys; work = ascent_work m [] s }
+    record {
+      mults = ys;
+      bound = lagrangian_bound m [] s ys;
+      point = bound_point m [] s ys;
+      work = ascent_work m [] s;
+    }
 
 -- a chunk after its passes, with the work of its ascent counted where there was one
 abbrev pub progress_of : Propagation → ℕ → Progress
@@ -105,9 +128,13 @@ progress_of p work = record { bounds = p.sides; steps = p.steps; work = 1 + p.ru
 
 -- after the passes: a box that they closed has no ascent
 abbrev pub after_passes : ModelParts → Task → Worker → Propagation → Ended → TaskChunk
-after_passes m task worker p ended.Open = on_point m task worker (progress_of p (ascent_of m p.sides).work) (ascent_of m p.sides) (is_found m task.cutoff (ascent_of m p.sides))
-after_passes m task worker p (ended.Conflict row) = closing_chunk task.node worker.splits [] (progress_of p 0) (Conflict row)
-after_passes m task worker p (ended.Empty col) = closing_chunk task.node worker.splits [] (progress_of p 0) (Empty col)
+after_passes m task worker p ended.Open =
+    on_point m task worker (progress_of p (ascent_of m p.sides).work) (ascent_of m p.sides)
+    (is_found m task.cutoff (ascent_of m p.sides))
+after_passes m task worker p (ended.Conflict row) =
+    closing_chunk task.node worker.splits [] (progress_of p 0) (Conflict row)
+after_passes m task worker p (ended.Empty col) =
+    closing_chunk task.node worker.splits [] (progress_of p 0) (Empty col)
 
 -- one chunk of a task, on its node
 abbrev pub node_chunk : ModelParts → Worker → Task → TaskChunk

@@ -16,8 +16,8 @@ use node_pool::BoundChange;
 use std::alloc::Global;
 use work_stamp::Entry;
 
-/// Closes the node where its bound is no longer below the cutoff, else splits it in the widest column of the box after the
-/// passes.
+/// Closes the node where its bound is no longer below the cutoff, else splits it in the widest
+/// column of the box after the passes.
 pub fn after_point(
     alloc: Global,
     task: &Task,
@@ -32,7 +32,8 @@ pub fn after_point(
     requires worker { IsWorker worker }
     requires few { length ascent.now.mults < 2 ^ 32 }
     requires low { neg_ℤ (pos (2 ^ 62)) ≤ℤ ascent.now.bound }
-    ensures { IfOk result (λ chunk. chunk ≡ after_point_of task.now worker progress ascent.now cutoff found) }
+    ensures { IfOk result (λ chunk.
+        chunk ≡ after_point_of task.now worker progress ascent.now cutoff found) }
 {
     if i128::from(cutoff) <= ascent.bound {
         let weights = weights_of(alloc, ascent.mults.as_slice())?;
@@ -117,7 +118,8 @@ fn splitting_chunk(
     requires small { choice.at <ℤ pos (2 ^ 62) }
     requires nodes { task.now.nodes ≤ 8 }
     requires worker { IsWorker worker }
-    ensures { IfOk result (λ chunk. chunk ≡ splitting_chunk_of task.now worker found cutoff work choice.col choice.at choice.keep choice.bound) }
+    ensures { IfOk result (λ chunk. chunk ≡ splitting_chunk_of task.now worker found cutoff work
+        choice.col choice.at choice.keep choice.bound) }
 {
     let splits = next_ordinal(worker.splits);
     let first = child_name(worker.slot, splits);
@@ -153,7 +155,8 @@ fn task_after(
     requires small { choice.at <ℤ pos (2 ^ 62) }
     requires room { first + 1 < 2 ^ 64 }
     requires nodes { task.now.nodes ≤ 8 }
-    ensures { IfOk result (λ after. after ≡ task_after_of task.now choice.col choice.at first cutoff choice.keep) }
+    ensures { IfOk result (λ after.
+        after ≡ task_after_of task.now choice.col choice.at first cutoff choice.keep) }
 {
     let SplitChoice { col, at, keep, .. } = choice;
     let (node, change) = match keep {

@@ -10,7 +10,8 @@ pub enum Keep {
 }
 
 impl Keep {
-    /// The number that an entry has for it: 0 for the first child, 1 for the second, and 2 for none.
+    /// The number that an entry has for it: 0 for the first child, 1 for the second, and 2 for
+    /// none.
     pub fn number(self) -> u8
         ensures { result ≡ number_of self }
     {

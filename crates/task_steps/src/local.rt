@@ -8,9 +8,9 @@ pub struct Local {
     pub task: Option<Task>,
 }
 
-/// What a task keeps: its node with the node's box, the value that a point must be below to be worth finding, and the
-/// number of nodes that the task has begun, with this one. The box is the root box cut by the splits on the node's path,
-/// without what passes tightened.
+/// What a task keeps: its node with the node's box, the value that a point must be below to be
+/// worth finding, and the number of nodes that the task has begun, with this one. The box is the
+/// root box cut by the splits on the node's path, without what passes tightened.
 #[derive(Debug, Drop)]
 pub struct Task {
     pub node: u64,

@@ -6,16 +6,17 @@ ghost use Rattle.task_steps.specs.Tasks.{is_found as is_found_of, node_chunk as 
 
 use crate::close_or_split::{after_point, closing_chunk};
 use crate::local::Task;
-use crate::task_chunk::{TaskChunk, Progress, Worker};
+use crate::task_chunk::{Progress, TaskChunk, Worker};
 use dual_ascent::{Ascent, ascend};
 use ip_core::{Closing, List, Model, OutOfMemory, Point, is_feasible, value};
 use row_propagate::{Outcome as Ended, propagate};
 use std::alloc::Global;
 use work_stamp::{Entry, Pulse};
 
-/// One chunk of a task, on its node: passes over the rows, then an ascent over the box that they leave. The node is closed
-/// where the passes close its box, or the bound is at least the task's cutoff; the reason is kept. Else it is split. The
-/// chunk counts 1, the passes and the ascent, and the pulse hears of no more.
+/// One chunk of a task, on its node: passes over the rows, then an ascent over the box that they
+/// leave. The node is closed where the passes close its box, or the bound is at least the task's
+/// cutoff; the reason is kept. Else it is split. The chunk counts 1, the passes and the ascent, and
+/// the pulse hears of no more.
 #[tactic(auto, using(crate::specs::Lemmas::Boxes::copied_within, crate::specs::Lemmas::ChunkWork::ascent_allowed))]
 pub fn node_chunk<P: Pulse>(
     alloc: Global,
@@ -31,7 +32,8 @@ pub fn node_chunk<P: Pulse>(
     ensures value { IfOk result (λ chunk. chunk ≡ node_chunk_of model.now worker task.now) }
     ensures ready { P.IsReady pulse.new }
     ensures rest { P.rest pulse.new ≡ P.rest pulse.old }
-    ensures spent { P.allowance pulse.old ≤ P.allowance pulse.new + (node_chunk_of model.now worker task.now).work }
+    ensures spent { P.allowance pulse.old
+        ≤ P.allowance pulse.new + (node_chunk_of model.now worker task.now).work }
 {
     let _limits = model.parts();
     let mut bounds = task.bounds.copy(alloc)?;
@@ -74,7 +76,8 @@ fn on_point(
     requires worker { IsWorker worker }
     requires few { length ascent.now.mults < 2 ^ 32 }
     requires low { neg_ℤ (pos (2 ^ 62)) ≤ℤ ascent.now.bound }
-    ensures { IfOk result (λ chunk. chunk ≡ on_point_of model.now task.now worker progress ascent.now (is_found_of model.now task.now.cutoff ascent.now)) }
+    ensures { IfOk result (λ chunk. chunk ≡ on_point_of model.now task.now worker progress
+        ascent.now (is_found_of model.now task.now.cutoff ascent.now)) }
 {
     let mut found = List::new(alloc);
     if !is_found(model, task.cutoff, ascent) {
@@ -88,7 +91,8 @@ fn on_point(
     after_point(alloc, task, worker, progress, ascent, value, found)
 }
 
-/// Whether the ascent's point is found: the bound is below the cutoff, and the point is feasible with a value below it.
+/// Whether the ascent's point is found: the bound is below the cutoff, and the point is feasible
+/// with a value below it.
 fn is_found(model: &Model, cutoff: i64, ascent: &Ascent) -> bool
     ensures value { result ≡ is_found_of model.now cutoff ascent.now }
     ensures feasible { IsTrue result → IsFeasible model.now ascent.now.point }

@@ -28,8 +28,8 @@ pub fn is_at_start(local: &Local) -> bool
     local.task.is_none()
 }
 
-/// What a slot between tasks does: it takes the best open node with the view's cutoff, waits where nothing is open, and is
-/// over where a Halt stands, or nothing is open or held.
+/// What a slot between tasks does: it takes the best open node with the view's cutoff, waits where
+/// nothing is open, and is over where a Halt stands, or nothing is open or held.
 pub fn begin(
     alloc: Global,
     model: &Model,
@@ -64,12 +64,16 @@ pub fn chunk<P: Pulse>(
 ) -> Result<Chunk, OutOfMemory>
     requires fits { FitsLocal model.now local.old }
     requires ready { P.IsReady pulse.old }
-    requires allowed { (chunk_of model.now local.old local.old.task).gives.work ≤ P.allowance pulse.old }
-    ensures gives { IfOk result (λ chunk. chunk ≡ (chunk_of model.now local.old local.old.task).gives) }
-    ensures local { OnOk result (local.new ≡ (chunk_of model.now local.old local.old.task).local) }
+    requires allowed { (chunk_of model.now local.old local.old.task).gives.work
+        ≤ P.allowance pulse.old }
+    ensures gives { IfOk result (λ chunk.
+        chunk ≡ (chunk_of model.now local.old local.old.task).gives) }
+    ensures local { OnOk result (local.new
+        ≡ (chunk_of model.now local.old local.old.task).local) }
     ensures ready { P.IsReady pulse.new }
     ensures rest { P.rest pulse.new ≡ P.rest pulse.old }
-    ensures spent { P.allowance pulse.old ≤ P.allowance pulse.new + (chunk_of model.now local.old local.old.task).gives.work }
+    ensures spent { P.allowance pulse.old
+        ≤ P.allowance pulse.new + (chunk_of model.now local.old local.old.task).gives.work }
 {
     let Some(task) = &local.task else {
         return Ok(Chunk {

@@ -10,7 +10,8 @@ pub struct Worker {
     pub splits: u64,
 }
 
-/// What a chunk has come to: the box after the passes, the tightenings that led to it, and the work that it counts.
+/// What a chunk has come to: the box after the passes, the tightenings that led to it, and the work
+/// that it counts.
 #[derive(Debug, Drop)]
 pub struct Progress {
     pub bounds: Bounds,
@@ -18,7 +19,8 @@ pub struct Progress {
     pub work: u64,
 }
 
-/// A split that a chunk makes: its column and value, the child that is kept, and the bound of both children.
+/// A split that a chunk makes: its column and value, the child that is kept, and the bound of both
+/// children.
 #[derive(Clone, Copy)]
 pub struct SplitChoice {
     pub col: u32,
@@ -27,8 +29,8 @@ pub struct SplitChoice {
     pub bound: i64,
 }
 
-/// What a chunk gives: its entries, its records and the work that it counts; how the task goes on; and the slot's count
-/// of splits.
+/// What a chunk gives: its entries, its records and the work that it counts; how the task goes on;
+/// and the slot's count of splits.
 #[derive(Debug, Drop)]
 pub struct TaskChunk {
     pub entries: List<Entry>,

@@ -22,7 +22,8 @@ impl Tasker for Search {
 
     ghost fits_local = { λ search local. FitsLocal search.model local };
 
-    ghost may_follow = { λ search history entry. MayFollowIn search.model search.settings history entry };
+    ghost may_follow = { λ search history entry.
+        MayFollowIn search.model search.settings history entry };
 
     ghost agrees = { λ search history slots. Agrees search.model search.settings history slots };
 

@@ -153,7 +153,8 @@ module _ (m : ModelParts) (settings : SearchSettings) where
 
   -- a Start of the node that is picked may follow
   start_follows : (history : List KeyedEntry) (l : Local) (es : List Entry)
-      → length history < 2 ^ 31 → (does : (begin_of m (view_of m settings history) l).does ≡ Take es)
+      → length history < 2 ^ 31
+      → (does : (begin_of m (view_of m settings history) l).does ≡ Take es)
       → MayFollowIn m settings history
       (Start (taken_is m (view_of m settings history) l es does).node)
   start_follows history l es short does =

@@ -20,24 +20,28 @@ use Rattle.task_steps.specs.Rules.{begin_of, begin_by, task_on}
 use Rattle.task_steps.specs.declared.local.Local.{Local}
 use Rattle.task_steps.specs.Lemmas.NameCounts.{ne_from_test}
 
-node_named : (heuristic : Bool) (o : Option ℕ) (name : ℕ) → node_pick heuristic o ≡ Node name → o ≡ Some name
+node_named : (heuristic : Bool) (o : Option ℕ) (name : ℕ) → node_pick heuristic o ≡ Node name
+    → o ≡ Some name
 node_named true None name same = absurd (cc)
 node_named false None name same = absurd (cc)
 node_named true (Some node) name same = absurd (cc)
 node_named false (Some node) name same = cc
 
-pick_named : (over cuts heuristic : Bool) (o : Option ℕ) (name : ℕ) → cond over Over (cond cuts CutLoop (node_pick heuristic o)) ≡ Node name → o ≡ Some name
+pick_named : (over cuts heuristic : Bool) (o : Option ℕ) (name : ℕ)
+    → cond over Over (cond cuts CutLoop (node_pick heuristic o)) ≡ Node name → o ≡ Some name
 pick_named true cuts heuristic o name same = absurd (cc)
 pick_named false true heuristic o name same = absurd (cc)
 pick_named false false heuristic o name same = node_named heuristic o name same
 
 -- a node that is picked is the best open one
 pub pick_best : (v : View) (name : ℕ) → pick_of v ≡ Node name → best_open v ≡ Some name
-pick_best v name same = pick_named (v.has_halt || is_finished v) (wants_cuts v) (wants_heuristic v) (best_open v) name same
+pick_best v name same = pick_named (v.has_halt || is_finished v) (wants_cuts v) (wants_heuristic v)
+    (best_open v) name same
 
 -- the first open node is open
 
-open_cases : (name : ℕ) (x : OpenNode) (others : Option OpenNode) (b : Bool) → nat_eq x.name name ≡ b
+open_cases : (name : ℕ) (x : OpenNode) (others : Option OpenNode) (b : Bool)
+    → nat_eq x.name name ≡ b
     → x.name ≡ name → cond b (Some x) others ≡ Some x
 open_cases name x others true is named = refl
 open_cases name x others false is named = absurd (ne_from_test x.name name is named)
@@ -45,8 +49,11 @@ open_cases name x others false is named = absurd (ne_from_test x.name name is na
 first_open : (nodes : List OpenNode) (name : ℕ) → first_name nodes ≡ Some name
     → (node : OpenNode) × (first_named name nodes ≡ Some node)
 first_open [] name same = absurd (none-some name same)
-first_open (x ∷ xs) name same =
-    (x, open_cases name x (first_named name xs) (nat_eq x.name name) refl (same_Some x.name name same))
+first_open (x ∷ xs) name same = (
+  x,
+  open_cases name x (first_named name xs) (nat_eq x.name name) refl
+      (same_Some x.name name same),
+)
 
 -- a node that is picked is open
 pub pick_open : (v : View) (name : ℕ) → pick_of v ≡ Node name → IsOpen v name
@@ -148,7 +155,8 @@ begin_words m v l es fits same =
           (All-nil HasWords);
     })
 
-idle_cases : (m : ModelParts) (v : View) (l : Local) (pick : Pick) → (begin_by m v l pick).does ≡ Idle → (begin_by m v l pick).local ≡ l
+idle_cases : (m : ModelParts) (v : View) (l : Local) (pick : Pick)
+    → (begin_by m v l pick).does ≡ Idle → (begin_by m v l pick).local ≡ l
 idle_cases m v l Over same = absurd (cc)
 idle_cases m v l Nothing same = refl
 idle_cases m v l CutLoop same = refl
@@ -156,10 +164,12 @@ idle_cases m v l (Heuristic node) same = refl
 idle_cases m v l (Node node) same = absurd (cc)
 
 -- a slot that waits is left as it was
-pub idle_stays : (m : ModelParts) (v : View) (l : Local) → (begin_of m v l).does ≡ Idle → (begin_of m v l).local ≡ l
+pub idle_stays : (m : ModelParts) (v : View) (l : Local) → (begin_of m v l).does ≡ Idle
+    → (begin_of m v l).local ≡ l
 idle_stays m v l same = idle_cases m v l (pick_of v) same
 
-end_cases : (m : ModelParts) (v : View) (l : Local) (pick : Pick) → (begin_by m v l pick).does ≡ End → (begin_by m v l pick).local ≡ l
+end_cases : (m : ModelParts) (v : View) (l : Local) (pick : Pick) → (begin_by m v l pick).does ≡ End
+    → (begin_by m v l pick).local ≡ l
 end_cases m v l Over same = refl
 end_cases m v l Nothing same = refl
 end_cases m v l CutLoop same = refl
@@ -167,5 +177,6 @@ end_cases m v l (Heuristic node) same = refl
 end_cases m v l (Node node) same = absurd (cc)
 
 -- and so is one that is over
-pub end_stays : (m : ModelParts) (v : View) (l : Local) → (begin_of m v l).does ≡ End → (begin_of m v l).local ≡ l
+pub end_stays : (m : ModelParts) (v : View) (l : Local) → (begin_of m v l).does ≡ End
+    → (begin_of m v l).local ≡ l
 end_stays m v l same = end_cases m v l (pick_of v) same

@@ -16,7 +16,8 @@ reached_small root s limits near = record {
 }
 
 -- so does what passes leave of a task's box
-pub passed_small : (m : ModelParts) (old new : Sides) → IsModel m → IsWithin m.root old → IsPaired old → IsWithin old new → HasNoEmpty new → IsSmall new
+pub passed_small : (m : ModelParts) (old new : Sides) → IsModel m → IsWithin m.root old
+    → IsPaired old → IsWithin old new → HasNoEmpty new → IsSmall new
 passed_small m old new valid outer paired inner solid =
     let same : length new.highs ≡ length new.lows =
     inner.as_many_highs ∙ paired.same_length ∙ sym inner.as_many_lows in

@@ -23,7 +23,8 @@ pub record IsWorked (m : ModelParts) (l : Local) (o : Option Task) : Type 0 wher
   pub some_work : 1 ≤ (chunk_of m l o).gives.work
   pub little_work : (chunk_of m l o).gives.work ≤ 2 ^ 40
 
-pub chunk_worked : (m : ModelParts) (l : Local) (o : Option Task) → IsModel m → IsPaired m.root → FitsLocal m l → FitsTask m o → is_none o ≡ false → IsWorked m l o
+pub chunk_worked : (m : ModelParts) (l : Local) (o : Option Task) → IsModel m → IsPaired m.root
+    → FitsLocal m l → FitsTask m o → is_none o ≡ false → IsWorked m l o
 chunk_worked m l None valid paired fits task_fits start_is = absurd (cc)
 chunk_worked m l (Some task) valid paired fits task_fits start_is =
     let good = chunk_good m l task valid paired fits task_fits in

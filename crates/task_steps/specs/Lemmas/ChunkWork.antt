@@ -23,21 +23,29 @@ use Rattle.task_steps.specs.declared.task_chunk.TaskChunk.{TaskChunk}
 use Rattle.task_steps.specs.declared.task_chunk.Progress.{Progress}
 use Rattle.task_steps.specs.declared.task_chunk.Worker.{Worker}
 
-choice_work : (b : Bool) (x y : TaskChunk) (n : ℕ) → x.work ≡ n → y.work ≡ n → (if b then x else y).work ≡ n
+choice_work : (b : Bool) (x y : TaskChunk) (n : ℕ) → x.work ≡ n → y.work ≡ n
+    → (if b then x else y).work ≡ n
 choice_work true x y n first second = first
 choice_work false x y n first second = second
 
-after_point_work : (task : Task) (worker : Worker) (p : Progress) (a : Ascent) (cutoff : ℤ) (found : List Entry) → (after_point task worker p a cutoff found).work ≡ p.work
+after_point_work : (task : Task) (worker : Worker) (p : Progress) (a : Ascent) (cutoff : ℤ)
+    (found : List Entry) → (after_point task worker p a cutoff found).work ≡ p.work
 after_point_work task worker p a cutoff found =
     let col = widest p.bounds in
     let at = middle p.bounds col in
-    choice_work (int_le cutoff a.bound) (closing_chunk task.node worker.splits found p (Bound (weights_of a.mults))) (splitting_chunk task worker found cutoff p.work col at (kept_child task.nodes (int_at a.point col) at) a.bound) p.work refl refl
+    choice_work (int_le cutoff a.bound)
+    (closing_chunk task.node worker.splits found p (Bound (weights_of a.mults)))
+    (splitting_chunk task worker found cutoff p.work col at
+    (kept_child task.nodes (int_at a.point col) at) a.bound) p.work refl refl
 
-on_point_work : (m : ModelParts) (task : Task) (worker : Worker) (p : Progress) (a : Ascent) (found : Bool) → (on_point m task worker p a found).work ≡ p.work
-on_point_work m task worker p a true = after_point_work task worker p a (value_at m a.point) (Found (value_at m a.point) a.point ∷ [])
+on_point_work : (m : ModelParts) (task : Task) (worker : Worker) (p : Progress) (a : Ascent)
+    (found : Bool) → (on_point m task worker p a found).work ≡ p.work
+on_point_work m task worker p a true = after_point_work task worker p a (value_at m a.point)
+    (Found (value_at m a.point) a.point ∷ [])
 on_point_work m task worker p a false = after_point_work task worker p a task.cutoff []
 
-open_work : (m : ModelParts) (task : Task) (worker : Worker) (p : Propagation) (o : Ended) → o ≡ ended.Open → ascent_work m [] p.sides ≤ (after_passes m task worker p o).work
+open_work : (m : ModelParts) (task : Task) (worker : Worker) (p : Propagation) (o : Ended)
+    → o ≡ ended.Open → ascent_work m [] p.sides ≤ (after_passes m task worker p o).work
 open_work m task worker p o is =
     let a = ascent_of m p.sides in
     let same = on_point_work m task worker (progress_of p a.work) a (is_found m task.cutoff a) in
@@ -66,7 +74,9 @@ pub ascent_allowed : (m : ModelParts) (worker : Worker) (task : Task) (start s :
 ascent_allowed m worker task start s run n start_is sides run_is goes allowed =
     le_trans (counts_ascent m worker task start s run start_is sides run_is goes) allowed
 
-work_cases : (m : ModelParts) (task : Task) (worker : Worker) (p : Propagation) (o : Ended) → (1 ≤ (after_passes m task worker p o).work) × ((after_passes m task worker p o).work ≤ 1 + p.run.work + ascent_work m [] p.sides)
+work_cases : (m : ModelParts) (task : Task) (worker : Worker) (p : Propagation) (o : Ended)
+    → (1 ≤ (after_passes m task worker p o).work)
+    × ((after_passes m task worker p o).work ≤ 1 + p.run.work + ascent_work m [] p.sides)
 work_cases m task worker p ended.Open =
     let a = ascent_of m p.sides in
     let same = on_point_work m task worker (progress_of p a.work) a (is_found m task.cutoff a) in
@@ -75,7 +85,8 @@ work_cases m task worker p (ended.Conflict row) = (omega arith, omega arith)
 work_cases m task worker p (ended.Empty col) = (omega arith, omega arith)
 
 -- a chunk counts some work, and not too much
-pub chunk_counts : (m : ModelParts) (worker : Worker) (task : Task) → IsModel m → (1 ≤ (node_chunk m worker task).work) × ((node_chunk m worker task).work ≤ 2 ^ 40)
+pub chunk_counts : (m : ModelParts) (worker : Worker) (task : Task) → IsModel m
+    → (1 ≤ (node_chunk m worker task).work) × ((node_chunk m worker task).work ≤ 2 ^ 40)
 chunk_counts m worker task valid =
     let p = propagation_of m.rows [] task.bounds in
     let parts = work_cases m task worker p p.run.outcome in

@@ -21,11 +21,15 @@ wider_cases n least false less = less
 
 widest_least : (s : Sides) (n : ℕ) → widest_below s n ≤ n
 widest_least s zero = omega arith
-widest_least s (suc n) = let more = wider_cases n (widest_below s n) (int_lt (width_at s (widest_below s n)) (width_at s n)) (widest_least s n) in omega arith
+widest_least s (suc n) = let more =
+    wider_cases n (widest_below s n) (int_lt (width_at s (widest_below s n)) (width_at s n))
+    (widest_least s n) in omega arith
 
 widest_below_known : (s : Sides) (n : ℕ) → 0 < n → widest_below s n < n
 widest_below_known s zero some = absurd (omega arith)
-widest_below_known s (suc n) some = let more = wider_cases n (widest_below s n) (int_lt (width_at s (widest_below s n)) (width_at s n)) (widest_least s n) in omega arith
+widest_below_known s (suc n) some = let more =
+    wider_cases n (widest_below s n) (int_lt (width_at s (widest_below s n)) (width_at s n))
+    (widest_least s n) in omega arith
 
 pub widest_known : (s : Sides) → 0 < length s.lows → widest s < length s.lows
 widest_known s some = widest_below_known s (length s.lows) some
@@ -52,10 +56,13 @@ signed_between z above below = fits_signed_from_abs w64 z (omega (arith, ints))
 
 -- the values of a feasible point have words
 
-between_small : (low x high : ℤ) → low ≤ℤ x → x ≤ℤ high → unsigned_abs low ≤ 2 ^ 31 → unsigned_abs high ≤ 2 ^ 31 → unsigned_abs x < 2 ^ 63
-between_small low x high above below first second = let between = unsigned_abs_between low x high above below in omega arith
+between_small : (low x high : ℤ) → low ≤ℤ x → x ≤ℤ high → unsigned_abs low ≤ 2 ^ 31
+    → unsigned_abs high ≤ 2 ^ 31 → unsigned_abs x < 2 ^ 63
+between_small low x high above below first second = let between =
+    unsigned_abs_between low x high above below in omega arith
 
-pub point_signed : (m : ModelParts) (x : List ℤ) → IsModel m → IsPaired m.root → IsFeasible m x → All IsSigned x
+pub point_signed : (m : ModelParts) (x : List ℤ) → IsModel m → IsPaired m.root → IsFeasible m x
+    → All IsSigned x
 point_signed m x valid paired feasible = λ k d within.
     let one_each = feasible.one_each in
     let box = valid.bounds.box in
@@ -63,4 +70,7 @@ point_signed m x valid paired feasible = λ k d within.
     let low : k < length m.root.lows = omega arith in
     let high : k < length m.root.highs = omega arith in
     subst (λ (z : ℤ). IsSigned z) (get_or_default x k (pos 0) d within)
-    (fits_signed_from_abs w64 (int_at x k) (between_small (int_at m.root.lows k) (int_at x k) (int_at m.root.highs k) (feasible.inside.above k within) (feasible.inside.below k within) (valid.bounds.limits.lows.each k (pos 0) low) (valid.bounds.limits.highs.each k (pos 0) high)))
+    (fits_signed_from_abs w64 (int_at x k)
+    (between_small (int_at m.root.lows k) (int_at x k) (int_at m.root.highs k)
+    (feasible.inside.above k within) (feasible.inside.below k within)
+    (valid.bounds.limits.lows.each k (pos 0) low) (valid.bounds.limits.highs.each k (pos 0) high)))

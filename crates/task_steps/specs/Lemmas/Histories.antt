@@ -76,7 +76,8 @@ after_with : (v : View) (s : SearchSettings) (es : List KeyedEntry)
     → view_after (with_settings v s) es ≡ with_settings (view_after v es) s
 after_with v s [] = refl
 after_with v s (e ∷ es) =
-    ap (λ (w : View). view_after w es) (entry_with v s e.entry) ∙ after_with (after_entry v e.entry) s es
+    ap (λ (w : View). view_after w es) (entry_with v s e.entry)
+    ∙ after_with (after_entry v e.entry) s es
 
 -- only the settings of the view differ
 pub view_with : (m : ModelParts) (s t : SearchSettings) (history : List KeyedEntry)

@@ -298,7 +298,8 @@ module _ (m : ModelParts) (v : View) (best : Option Best) (slot : ℕ) (claims :
       subst (λ (x : Claim). Meets m w best (claims_with claims slot x)) (sym same_claim) meets_d
 
   -- an open node is taken by a slot
-  pub joined_start : (node : ℕ) → MayFollow m v (Start node) → Meets m (after_entry v (Start node)) best
+  pub joined_start : (node : ℕ) → MayFollow m v (Start node)
+      → Meets m (after_entry v (Start node)) best
       (claims_with claims slot (claim_on m v (claims slot) node))
   joined_start node follows =
       let e = Start node in

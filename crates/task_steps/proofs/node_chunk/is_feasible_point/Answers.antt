@@ -7,4 +7,5 @@ pub returns-clause-value : goal.returns-clause-value
 returns-clause-value c =
     let m = c.args.model.now in
     let x = c.args.point.now in
-    same_test (IsFeasible m x) c.is_feasible.result (is_feasible_at m x) c.is_feasible.ensures.0 c.is_feasible.ensures.1 (feasible_from_test m x) (test_from_feasible m x)
+    same_test (IsFeasible m x) c.is_feasible.result (is_feasible_at m x) c.is_feasible.ensures.0
+    c.is_feasible.ensures.1 (feasible_from_test m x) (test_from_feasible m x)
