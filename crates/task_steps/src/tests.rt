@@ -1,4 +1,4 @@
-ghost use Rattle.std.specs.Prelude.{◌≡◌, IfOk};
+ghost use Rattle.std.specs.Prelude.{◌≡◌, IfOk, IfSome};
 ghost use Rattle.stamp_machine.specs.Limits.{AreLimits};
 ghost use Rattle.task_steps.specs.Truth.{IsTrueAnswer};
 
@@ -6,58 +6,17 @@ use crate::{
     Answer, Search, Status, answer_of, answers_are_true, best_nodes_are_taken, histories_are_read,
     limits_are_met,
 };
-use ip_core::{Bounds, List, Model, ModelParts, Name, OutOfMemory, Row, Term, Text};
+use ip_core::dense::{DenseModel, DenseRow};
+use ip_core::{List, OutOfMemory};
 use node_pool::SearchSettings;
 use stamp_machine::{History, Limits, run_alone};
 use std::alloc::Global;
 use std::test::Fail;
-use work_stamp::{Entry, KeyedEntry};
+use work_stamp::Entry;
 
-/// A row of one coefficient for each column.
-fn row(alloc: Global, coefs: &[i64], least: i64) -> Result<Row, OutOfMemory> {
-    let mut terms = List::new(alloc);
-    let mut col = 0u32;
-    for coef in coefs {
-        if *coef != 0 {
-            terms.push(Term { col, coef: *coef })?;
-        }
-        col = col.wrapping_add(1);
-    }
-    Ok(Row { terms, least })
-}
-
-fn name(alloc: Global) -> Result<Name, Fail> {
-    let mut text = Text::new(alloc);
-    text.push(b'x')?;
-    Ok(Name::of(text).ok_or("a name")?)
-}
-
-/// The search of a model whose columns have these costs and lie in 0 to `high`.
-fn search(alloc: Global, costs: &[i64], high: i64, rows: List<Row>) -> Result<Search, Fail> {
-    let mut cols = List::new(alloc);
-    let mut lows = List::new(alloc);
-    let mut highs = List::new(alloc);
-    for _cost in costs.iter().take(100) {
-        cols.push(name(alloc)?)?;
-        lows.push(0)?;
-        highs.push(high)?;
-    }
-    let root = if lows.len() <= 1_000 {
-        Bounds::of(lows, highs)
-    } else {
-        None
-    };
-    let model = Model::of(ModelParts {
-        name: name(alloc)?,
-        cols,
-        costs: List::of(Vec::from_slice(alloc, costs)?),
-        constant: 0,
-        decimals: 0,
-        maximise: false,
-        root: root.ok_or("a box")?,
-        rows,
-    })
-    .ok_or("a model")?;
+/// The search of a model in plain numbers.
+fn search_of(alloc: Global, dense: &DenseModel) -> Result<Search, Fail> {
+    let model = dense.build(alloc)?.ok_or("a model")?;
     let settings = SearchSettings {
         cuts: false,
         heuristics: false,
@@ -65,28 +24,101 @@ fn search(alloc: Global, costs: &[i64], high: i64, rows: List<Row>) -> Result<Se
     Ok(Search::new(model, settings))
 }
 
+/// The least x in 0 to 1.
+const UNIT: DenseModel<'static> = DenseModel {
+    costs: &[1],
+    lows: &[0],
+    highs: &[1],
+    rows: &[],
+};
+
+/// 46 columns in 0 to 1 with cost 1.
+const UNITS_46: DenseModel<'static> = DenseModel {
+    costs: &[1; 46],
+    lows: &[0; 46],
+    highs: &[1; 46],
+    rows: &[],
+};
+
+/// One column less.
+const UNITS_45: DenseModel<'static> = DenseModel {
+    costs: &[1; 45],
+    lows: &[0; 45],
+    highs: &[1; 45],
+    rows: &[],
+};
+
+/// 2x + 2y + 2z = 3 in 0 to 1, without costs.
+const ODD: DenseModel<'static> = DenseModel {
+    costs: &[0, 0, 0],
+    lows: &[0, 0, 0],
+    highs: &[1, 1, 1],
+    rows: &[
+        DenseRow {
+            coefs: &[2, 2, 2],
+            least: 3,
+        },
+        DenseRow {
+            coefs: &[-2, -2, -2],
+            least: -3,
+        },
+    ],
+};
+
+/// x + y = 2 in 0 to 1, without costs.
+const BOTH: DenseModel<'static> = DenseModel {
+    costs: &[0, 0],
+    lows: &[0, 0],
+    highs: &[1, 1],
+    rows: &[
+        DenseRow {
+            coefs: &[1, 1],
+            least: 2,
+        },
+        DenseRow {
+            coefs: &[-1, -1],
+            least: -2,
+        },
+    ],
+};
+
+/// The greatest 5x + 4y + 3z in 0 to 3 with 2x + 3y + z at most 5, 4x + y + 2z at most 11 and
+/// 3x + 4y + 2z at most 8.
+const PRODUCTS: DenseModel<'static> = DenseModel {
+    costs: &[-5, -4, -3],
+    lows: &[0, 0, 0],
+    highs: &[3, 3, 3],
+    rows: &[
+        DenseRow {
+            coefs: &[-2, -3, -1],
+            least: -5,
+        },
+        DenseRow {
+            coefs: &[-4, -1, -2],
+            least: -11,
+        },
+        DenseRow {
+            coefs: &[-3, -4, -2],
+            least: -8,
+        },
+    ],
+};
+
 /// The machine's history with its answer, which is true by the laws.
-fn answer(
-    alloc: Global,
-    search: &Search,
-    slots: u32,
-    work: u64,
-    store: u32,
-) -> Result<(History, Answer), OutOfMemory>
-    requires { AreLimits (record { slots = slots; work = work; store = store }) }
+fn answer(alloc: Global, search: &Search, limits: &Limits) -> Result<(History, Answer), OutOfMemory>
+    requires { AreLimits limits.now }
     ensures { IfOk result (λ both. IsTrueAnswer search.now.model both.1) }
 {
-    let limits = Limits { slots, work, store };
-    let history = run_alone(alloc, search, &limits)?;
-    histories_are_read(search, &limits);
-    answers_are_true(search, &limits);
-    limits_are_met(search, &limits);
+    let history = run_alone(alloc, search, limits)?;
+    histories_are_read(search, limits);
+    answers_are_true(search, limits);
+    limits_are_met(search, limits);
     best_nodes_are_taken();
     let answer = answer_of(alloc, search.model(), &history)?;
     Ok((history, answer))
 }
 
-// The numbers of the kinds of entries in a row.
+// The numbers of the kinds of entries.
 const START: u64 = 1;
 
 const FOUND: u64 = 2;
@@ -99,11 +131,12 @@ const DONE: u64 = 5;
 
 const HALT: u64 = 6;
 
-/// The number of an entry's kind, its node, and the first child of a split.
-fn kind_and_names(entry: &Entry) -> [u64; 3] {
+/// The number of an entry's kind, and its node with a split's first child, or its value. Another
+/// kind has the number 0.
+fn kind_row(entry: &Entry) -> [u64; 3] {
     match entry {
         Entry::Start { node } => [START, *node, 0],
-        Entry::Found { .. } => [FOUND, 0, 0],
+        Entry::Found { value, .. } => [FOUND, value.cast_unsigned(), 0],
         Entry::Split { node, first, .. } => [SPLIT, *node, *first],
         Entry::Closed { node } => [CLOSED, *node, 0],
         Entry::Done => [DONE, 0, 0],
@@ -112,93 +145,189 @@ fn kind_and_names(entry: &Entry) -> [u64; 3] {
     }
 }
 
-/// Whether entries are these rows: the stamp and the slot of each, the number of its kind, and its
-/// names.
-fn are_rows(entries: &[KeyedEntry], rows: &[[u64; 5]]) -> bool {
-    if entries.len() != rows.len() {
+/// Whether a history has these entries, each with its stamp and its slot before its kind, and these
+/// ends.
+fn has_rows(
+    alloc: Global,
+    history: &History,
+    wanted: &[[u64; 5]],
+    ends: &[u64],
+) -> Result<bool, OutOfMemory> {
+    let mut rows = List::new(alloc);
+    for item in history.entries.as_slice() {
+        let [kind, first, second] = kind_row(&item.entry);
+        rows.push([
+            item.key.stamp,
+            u64::from(item.key.slot),
+            kind,
+            first,
+            second,
+        ])?;
+    }
+    Ok(rows.as_slice() == wanted && history.ends.as_slice() == ends)
+}
+
+/// Whether an answer has this status, and a best point with this value, or none.
+fn is_answer(answer: &Answer, status: Status, wanted: Option<(i64, &[i64])>) -> bool {
+    if answer.status != status {
         return false;
     }
-    for k in 0..rows.len() {
-        if k >= entries.len() {
-            return false;
-        }
-        let item = &entries[k];
-        let [kind, node, first] = kind_and_names(&item.entry);
-        if [item.key.stamp, u64::from(item.key.slot), kind, node, first] != rows[k] {
-            return false;
-        }
+    match (&answer.best, wanted) {
+        (Some(best), Some((value, point))) => best.value == value && best.point.values() == point,
+        (None, None) => true,
+        _ => false,
     }
-    true
 }
 
-/// What an answer comes to: its status, and the value of its best point.
-fn outline(answer: &Answer) -> (Status, Option<i64>) {
-    (answer.status, answer.best.as_ref().map(|best| best.value))
+/// A run of the search of a model by one slot or two, what its history is, and what it answers.
+struct Run {
+    dense: DenseModel<'static>,
+    slots: u32,
+    work: u64,
+    store: u32,
+    rows: &'static [[u64; 5]],
+    ends: &'static [u64],
+    status: Status,
+    best: Option<(i64, &'static [i64])>,
 }
 
-// The least x in 0 to 1 on two slots: the chunk counts 1, a pass of 1 and twelve rounds of 1. Slot
-// 1 finds nothing open at stamp 0, waits until 1,000, and is over then.
-#[test]
-fn two_slots_share_one_node(rt: HostRuntime) -> Result<(), Fail> {
-    let search = search(rt.alloc(), &[1], 1, List::new(rt.alloc()))?;
-    let (history, answer) = answer(rt.alloc(), &search, 2, 200_000_000, 2_097_152)?;
-    let rows = [
-        [0, 0, START, 0, 0],
-        [14, 0, FOUND, 0, 0],
-        [14, 0, CLOSED, 0, 0],
-        [14, 0, DONE, 0, 0],
-    ];
-    assert!(rt; are_rows(history.entries.as_slice(), &rows));
-    assert!(rt; history.ends.as_slice() == [14, 1_000]);
-    assert!(rt; outline(&answer) == (Status::Optimal, Some(0)));
-    Ok(())
-}
-
-// 2x + 2y + 2z = 3 in 0 to 1: the root is split after 1 + 7 + 11 * 19, and each child is closed by
-// its passes.
-#[test]
-fn a_split_shows_that_there_is_no_point(rt: HostRuntime) -> Result<(), Fail> {
-    let mut rows = List::new(rt.alloc());
-    rows.push(row(rt.alloc(), &[2, 2, 2], 3)?)?;
-    rows.push(row(rt.alloc(), &[-2, -2, -2], -3)?)?;
-    let search = search(rt.alloc(), &[0, 0, 0], 1, rows)?;
-    let (history, answer) = answer(rt.alloc(), &search, 1, 200_000_000, 4_194_304)?;
-    let rows = [
-        [0, 0, START, 0, 0],
-        [217, 0, SPLIT, 0, 4],
-        [225, 0, CLOSED, 4, 0],
-        [225, 0, DONE, 0, 0],
-        [225, 0, START, 5, 0],
-        [240, 0, CLOSED, 5, 0],
-        [240, 0, DONE, 0, 0],
-    ];
-    assert!(rt; are_rows(history.entries.as_slice(), &rows));
-    assert!(rt; history.ends.as_slice() == [240]);
-    assert!(rt; outline(&answer) == (Status::Infeasible, None));
-    Ok(())
-}
-
-// Limits of work and store, at columns of cost 1 in 0 to 1: the number of columns, the two limits,
-// the number of entries, and the answer.
-const AT_LIMITS: [(usize, u64, u32, usize, Status, Option<i64>); 5] = [
-    (1, 0, 1_000, 0, Status::WorkLimit, None),
-    (1, 14, 1_000, 1, Status::WorkLimit, None),
-    (1, 15, 1_000, 4, Status::Optimal, Some(0)),
-    (46, 200_000_000, 64, 2, Status::StoreLimit, None),
-    (45, 200_000_000, 64, 4, Status::Optimal, Some(0)),
+const RUNS: [Run; 7] = [
+    // The chunk counts 1, a pass of 1 and twelve rounds of 1. Slot 1 finds nothing open at stamp
+    // 0, waits until 1,000, and is over then.
+    Run {
+        dense: UNIT,
+        slots: 2,
+        work: 200_000_000,
+        store: 2_097_152,
+        rows: &[
+            [0, 0, START, 0, 0],
+            [14, 0, FOUND, 0, 0],
+            [14, 0, CLOSED, 0, 0],
+            [14, 0, DONE, 0, 0],
+        ],
+        ends: &[14, 1_000],
+        status: Status::Optimal,
+        best: Some((0, &[0])),
+    },
+    // The root is split after 1 + 7 + 11 * 19, and each child is closed by its passes.
+    Run {
+        dense: ODD,
+        slots: 1,
+        work: 200_000_000,
+        store: 2_097_152,
+        rows: &[
+            [0, 0, START, 0, 0],
+            [217, 0, SPLIT, 0, 4],
+            [225, 0, CLOSED, 4, 0],
+            [225, 0, DONE, 0, 0],
+            [225, 0, START, 5, 0],
+            [240, 0, CLOSED, 5, 0],
+            [240, 0, DONE, 0, 0],
+        ],
+        ends: &[240],
+        status: Status::Infeasible,
+        best: None,
+    },
+    Run {
+        dense: UNIT,
+        slots: 1,
+        work: 0,
+        store: 2_097_152,
+        rows: &[],
+        ends: &[0],
+        status: Status::WorkLimit,
+        best: None,
+    },
+    Run {
+        dense: UNIT,
+        slots: 1,
+        work: 14,
+        store: 2_097_152,
+        rows: &[[0, 0, START, 0, 0]],
+        ends: &[14],
+        status: Status::WorkLimit,
+        best: None,
+    },
+    Run {
+        dense: UNIT,
+        slots: 1,
+        work: 15,
+        store: 2_097_152,
+        rows: &[
+            [0, 0, START, 0, 0],
+            [14, 0, FOUND, 0, 0],
+            [14, 0, CLOSED, 0, 0],
+            [14, 0, DONE, 0, 0],
+        ],
+        ends: &[14],
+        status: Status::Optimal,
+        best: Some((0, &[0])),
+    },
+    // The entries of the chunk have 4 + 46 + 4 + 3 words, and the Start had 4, of 60 that the slot
+    // may publish.
+    Run {
+        dense: UNITS_46,
+        slots: 1,
+        work: 200_000_000,
+        store: 64,
+        rows: &[[0, 0, START, 0, 0], [14, 0, HALT, 0, 0]],
+        ends: &[14],
+        status: Status::StoreLimit,
+        best: None,
+    },
+    // With one column less they are 60 words in all.
+    Run {
+        dense: UNITS_45,
+        slots: 1,
+        work: 200_000_000,
+        store: 64,
+        rows: &[
+            [0, 0, START, 0, 0],
+            [14, 0, FOUND, 0, 0],
+            [14, 0, CLOSED, 0, 0],
+            [14, 0, DONE, 0, 0],
+        ],
+        ends: &[14],
+        status: Status::Optimal,
+        best: Some((0, &[0; 45])),
+    },
 ];
 
-/// The first case of limits that comes out otherwise.
-fn unlike_at_limits(alloc: Global) -> Result<Option<usize>, Fail> {
-    for k in 0..AT_LIMITS.len() {
-        let (columns, work, store, entries, status, best) = AT_LIMITS[k];
-        let costs = vec![in alloc; 1i64; columns]?;
-        let search = search(alloc, costs.as_slice(), 1, List::new(alloc))?;
-        if work > 1_000_000_000_000 || store < 64 || store > 4_194_304 {
-            return Ok(Some(k));
-        }
-        let (history, answer) = answer(alloc, &search, 1, work, store)?;
-        if history.entries.len() != entries || outline(&answer) != (status, best) {
+/// Limits of one slot or two within their ranges.
+fn limits_of(slots: u32, work: u64, store: u32) -> Option<Limits>
+    ensures { IfSome result (λ limits. AreLimits limits) }
+{
+    if work > 1_000_000_000_000 || store < 64 || store > 2_097_152 {
+        return None;
+    }
+    match slots {
+        1 => Some(Limits {
+            slots: 1,
+            work,
+            store,
+        }),
+        2 => Some(Limits {
+            slots: 2,
+            work,
+            store,
+        }),
+        _ => None,
+    }
+}
+
+/// Whether a run comes out as it is to.
+fn is_as_wanted(alloc: Global, run: &Run) -> Result<bool, Fail> {
+    let search = search_of(alloc, &run.dense)?;
+    let limits = limits_of(run.slots, run.work, run.store).ok_or("limits")?;
+    let (history, answer) = answer(alloc, &search, &limits)?;
+    let same = has_rows(alloc, &history, run.rows, run.ends)?;
+    Ok(same && is_answer(&answer, run.status, run.best))
+}
+
+/// The first run that comes out otherwise.
+fn unlike_runs(alloc: Global) -> Result<Option<usize>, Fail> {
+    for k in 0..RUNS.len() {
+        if !is_as_wanted(alloc, &RUNS[k])? {
             return Ok(Some(k));
         }
     }
@@ -206,8 +335,27 @@ fn unlike_at_limits(alloc: Global) -> Result<Option<usize>, Fail> {
 }
 
 #[test]
-fn limits_end_a_search(rt: HostRuntime) -> Result<(), Fail> {
-    assert!(rt; unlike_at_limits(rt.alloc())? == None);
+fn histories_follow_the_rules(rt: HostRuntime) -> Result<(), Fail> {
+    assert!(rt; unlike_runs(rt.alloc())? == None);
+    Ok(())
+}
+
+/// Whether four slots find this best point of a model, with this value.
+fn is_best(alloc: Global, dense: &DenseModel, value: i64, point: &[i64]) -> Result<bool, Fail> {
+    let search = search_of(alloc, dense)?;
+    let limits = Limits {
+        slots: 4,
+        work: 200_000_000,
+        store: 1_048_576,
+    };
+    let (_history, answer) = answer(alloc, &search, &limits)?;
+    Ok(is_answer(&answer, Status::Optimal, Some((value, point))))
+}
+
+#[test]
+fn best_points_are_found(rt: HostRuntime) -> Result<(), Fail> {
+    assert!(rt; is_best(rt.alloc(), &PRODUCTS, -13, &[2, 0, 1])?);
+    assert!(rt; is_best(rt.alloc(), &BOTH, 0, &[1, 1])?);
     Ok(())
 }
 
@@ -265,30 +413,56 @@ fn lesser(least: Option<i64>, value: i64) -> Option<i64> {
     }
 }
 
-/// Whether the search of a model by so many tasks has the least value of all points.
-fn is_least(alloc: Global, case: &[i64; 11], slots: u32) -> Result<bool, Fail>
+/// Whether the search of a model within limits has the least value of all points.
+fn is_least(alloc: Global, case: &[i64; 11], limits: &Limits) -> Result<bool, Fail>
+    requires { AreLimits limits.now }
+{
+    let dense = DenseModel {
+        costs: &case[..3],
+        lows: &[0, 0, 0],
+        highs: &[2, 2, 2],
+        rows: &[
+            DenseRow {
+                coefs: &case[3..6],
+                least: case[6],
+            },
+            DenseRow {
+                coefs: &case[7..10],
+                least: case[10],
+            },
+        ],
+    };
+    let search = search_of(alloc, &dense)?;
+    let (_history, answer) = answer(alloc, &search, limits)?;
+    let value = match &answer.best {
+        Some(best) => Some(best.value),
+        None => None,
+    };
+    let ended = answer.status == Status::Optimal || answer.status == Status::Infeasible;
+    Ok(ended && value == least(case))
+}
+
+/// Whether so many slots each have the least value.
+fn is_least_on(alloc: Global, case: &[i64; 11], slots: u32) -> Result<bool, Fail>
     requires { AreLimits (record { slots = slots; work = 1000000; store = 10000 }) }
 {
-    let mut rows = List::new(alloc);
-    rows.push(row(alloc, &case[3..6], case[6])?)?;
-    rows.push(row(alloc, &case[7..10], case[10])?)?;
-    let search = search(alloc, &case[..3], 2, rows)?;
-    let (_history, answer) = answer(alloc, &search, slots, 1_000_000, 10_000)?;
-    Ok(match least(case) {
-        Some(value) => outline(&answer) == (Status::Optimal, Some(value)),
-        None => outline(&answer) == (Status::Infeasible, None),
-    })
+    let limits = Limits {
+        slots,
+        work: 1_000_000,
+        store: 10_000,
+    };
+    is_least(alloc, case, &limits)
 }
 
 /// The first model whose search differs from the enumeration of all its points, by 1, 2, 5 or 64
-/// tasks.
+/// slots.
 fn unlike_enumeration(alloc: Global) -> Result<Option<usize>, Fail> {
     for k in 0..MODELS.len() {
         let case = &MODELS[k];
-        if !is_least(alloc, case, 1)? || !is_least(alloc, case, 2)? {
+        if !is_least_on(alloc, case, 1)? || !is_least_on(alloc, case, 2)? {
             return Ok(Some(k));
         }
-        if !is_least(alloc, case, 5)? || !is_least(alloc, case, 64)? {
+        if !is_least_on(alloc, case, 5)? || !is_least_on(alloc, case, 64)? {
             return Ok(Some(k));
         }
     }
