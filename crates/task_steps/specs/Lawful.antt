@@ -18,7 +18,7 @@ use Rattle.task_steps.specs.Rules.{begin_of, rules}
 use Rattle.task_steps.specs.declared.local.Local.{Local}
 use Rattle.task_steps.specs.Lemmas.Agreeing.{agrees_at_first, chunk_agrees, halt_follows, halt_joins, pending_follows, pending_joins, slot_leaves, take_follows, take_joins}
 use Rattle.task_steps.specs.Lemmas.Beginning.{begin_fits, begin_words, end_stays, idle_stays, take_begins}
-use Rattle.task_steps.specs.Lemmas.Calls.{chunk_worked, fresh_local_fits}
+use Rattle.task_steps.specs.Lemmas.Calls.{chunk_lawful, fresh_local_fits}
 use Rattle.task_steps.specs.Lemmas.Fitting.{fresh_view_fits, view_fits}
 use Rattle.task_steps.specs.Lemmas.Histories.{same_view}
 
@@ -54,17 +54,17 @@ module _ (m : ModelParts) (settings : SearchSettings) where
         (sym (can.is_view ∙ same_view m settings can.history)) can.follows);
     begin_fits = λ view l fits_view fits start. begin_fits m view l fits_view fits;
     chunk_fits = λ l fits has.
-        (chunk_worked m l l.task valid paired fits fits.task has).fits;
+        (chunk_lawful m l l.task valid paired fits fits.task has).fits;
     take_begins = λ view l es fits_view fits start does. take_begins m view l es does;
     idle_stays = λ view l fits_view fits start does. idle_stays m view l does;
     end_stays = λ view l fits_view fits start does. end_stays m view l does;
     some_work = λ l fits has.
-        (chunk_worked m l l.task valid paired fits fits.task has).some_work;
+        (chunk_lawful m l l.task valid paired fits fits.task has).some_work;
     little_work = λ l fits has.
-        (chunk_worked m l l.task valid paired fits fits.task has).little_work;
+        (chunk_lawful m l l.task valid paired fits fits.task has).little_work;
     begin_words = λ view l es fits_view fits start does. begin_words m view l es fits_view does;
     chunk_words = λ l fits has.
-        (chunk_worked m l l.task valid paired fits fits.task has).words;
+        (chunk_lawful m l l.task valid paired fits fits.task has).words;
     agrees_at_first = λ slots few. agrees_at_first m settings slots valid paired few;
     pending_follows = λ history slots slot l e es short agrees there.
         pending_follows m settings history slots slot l e es short agrees there;

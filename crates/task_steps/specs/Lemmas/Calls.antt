@@ -17,16 +17,16 @@ pub fresh_local_fits : (m : ModelParts) (slot : ℕ) → slot < 64 → FitsLocal
 fresh_local_fits m slot few = record { slot = few; few = omega arith; task = tt }
 
 -- what a chunk of a begun task leaves and gives
-pub record IsWorked (m : ModelParts) (l : Local) (o : Option Task) : Type 0 where
+pub record IsLawfulChunk (m : ModelParts) (l : Local) (o : Option Task) : Type 0 where
   pub fits : FitsLocal m (chunk_of m l o).local
   pub words : HaveWords (chunk_of m l o).gives.entries
   pub some_work : 1 ≤ (chunk_of m l o).gives.work
   pub little_work : (chunk_of m l o).gives.work ≤ 2 ^ 40
 
-pub chunk_worked : (m : ModelParts) (l : Local) (o : Option Task) → IsModel m → IsPaired m.root
-    → FitsLocal m l → FitsTask m o → is_none o ≡ false → IsWorked m l o
-chunk_worked m l None valid paired fits task_fits start_is = absurd (cc)
-chunk_worked m l (Some task) valid paired fits task_fits start_is =
+pub chunk_lawful : (m : ModelParts) (l : Local) (o : Option Task) → IsModel m → IsPaired m.root
+    → FitsLocal m l → FitsTask m o → is_none o ≡ false → IsLawfulChunk m l o
+chunk_lawful m l None valid paired fits task_fits start_is = absurd (cc)
+chunk_lawful m l (Some task) valid paired fits task_fits start_is =
     let good = chunk_good m l task valid paired fits task_fits in
     let counts = chunk_counts m (worker_of l) task valid in
     record { fits = good.fits; words = good.words; some_work = counts.0; little_work = counts.1 }
