@@ -44,7 +44,7 @@ pub found_at_once : node_chunk free (worker 0) (task 0 unit (pos 2) 1) ≡ recor
   splits = 0;
 }
 unfolding Rattle.row_propagate.specs.Passes.after_passes Rattle.dual_ascent.specs.Ascents.ascent
-    Rattle.dual_ascent.specs.Climbs.climbed Rattle.dual_ascent.specs.Climbs.after_round
+    Rattle.dual_ascent.specs.Climbs.after_rounds Rattle.dual_ascent.specs.Climbs.after_round
     Rattle.dual_ascent.specs.Climbs.after_rows Rattle.safe_bound.specs.Bounds.numerator
     Rattle.safe_bound.specs.Bounds.reduced_cost
 found_at_once = refl
@@ -84,7 +84,7 @@ pub first_split : node_chunk odd (worker 0) (task 0 units (pos 1) 1) ≡ record 
   splits = 1;
 }
 unfolding Rattle.row_propagate.specs.Passes.after_passes Rattle.dual_ascent.specs.Ascents.ascent
-    Rattle.dual_ascent.specs.Climbs.climbed Rattle.dual_ascent.specs.Climbs.after_round
+    Rattle.dual_ascent.specs.Climbs.after_rounds Rattle.dual_ascent.specs.Climbs.after_round
     Rattle.dual_ascent.specs.Climbs.after_rows Rattle.safe_bound.specs.Bounds.numerator
     Rattle.safe_bound.specs.Bounds.reduced_cost
 first_split = refl

@@ -30,7 +30,7 @@ pub free_run : after 4 free ≡ record {
   ends = 14 ∷ [];
 }
 unfolding moves Rattle.row_propagate.specs.Passes.after_passes
-    Rattle.dual_ascent.specs.Ascents.ascent Rattle.dual_ascent.specs.Climbs.climbed
+    Rattle.dual_ascent.specs.Ascents.ascent Rattle.dual_ascent.specs.Climbs.after_rounds
     Rattle.dual_ascent.specs.Climbs.after_round Rattle.dual_ascent.specs.Climbs.after_rows
     Rattle.safe_bound.specs.Bounds.numerator Rattle.safe_bound.specs.Bounds.reduced_cost
 free_run = refl
@@ -48,7 +48,7 @@ pub odd_run : after 5 odd ≡ record {
   ends = 240 ∷ [];
 }
 unfolding moves Rattle.row_propagate.specs.Passes.after_passes
-    Rattle.dual_ascent.specs.Ascents.ascent Rattle.dual_ascent.specs.Climbs.climbed
+    Rattle.dual_ascent.specs.Ascents.ascent Rattle.dual_ascent.specs.Climbs.after_rounds
     Rattle.dual_ascent.specs.Climbs.after_round Rattle.dual_ascent.specs.Climbs.after_rows
     Rattle.safe_bound.specs.Bounds.numerator Rattle.safe_bound.specs.Bounds.reduced_cost
 odd_run = refl

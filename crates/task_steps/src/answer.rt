@@ -49,7 +49,7 @@ pub fn answer_of(alloc: Global, model: &Model, history: &History) -> Result<Answ
 }
 
 /// The view of a history. Which nodes are left in it doesn't depend on the settings.
-#[tactic(auto, using(crate::proofs::Histories::absorb_joins, crate::proofs::Histories::view_step))]
+#[tactic(auto, using(crate::proofs::Histories::absorb_joins))]
 fn pool_of(alloc: Global, model: &Model, entries: &[KeyedEntry]) -> Result<Pool, OutOfMemory>
     requires { IsHistory model.now entries.now }
     ensures { IfOk result (λ pool. pool ≡ view_of model.now splits_alone entries.now) }
