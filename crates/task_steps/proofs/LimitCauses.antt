@@ -16,7 +16,7 @@ use Rattle.row_propagate.specs.declared.outcome.Outcome.{Outcome as Ended}
 use Rattle.row_propagate.specs.declared.outcome.Outcome.TheVariants as ended
 use Rattle.dual_ascent.specs.declared.ascent.Ascent.{Ascent}
 use Rattle.work_stamp.specs.Histories.{keyed_entry, FollowInTurn}
-use Rattle.work_stamp.specs.Taskers.{view_after, view_of as rules_view}
+use Rattle.work_stamp.specs.Taskers.{view_after}
 use Rattle.work_stamp.specs.declared.entry.Entry.{Entry}
 use Rattle.work_stamp.specs.declared.entry.Entry.TheVariants.{Start, CutStart, HeurStart, Done, Found, Cut, Split, Closed, Halt}
 use Rattle.work_stamp.specs.declared.key.Key.{Key}
@@ -32,10 +32,10 @@ use Rattle.stamp_machine.proofs.Choices.{by_test}
 use Rattle.stamp_machine.proofs.Endings.{no_halt-append, halt_is, halts_explained, ends_explained}
 use Rattle.stamp_machine.proofs.Follows.{follow-right, view_after-append}
 use Rattle.stamp_machine.proofs.Stops.{stops}
-use Rattle.node_pool.specs.Follows.{IsHeld, IsOpen, MayFollow, MayJoin}
+use Rattle.node_pool.specs.Follows.{MayFollow, MayJoin}
 use Rattle.node_pool.specs.Nodes.{first_named}
 use Rattle.node_pool.specs.Picks.{node_pick, pick_of, wants_cuts, wants_heuristic, best_open}
-use Rattle.node_pool.specs.Views.{View, after_entry, fresh_view, is_finished, open_node, view_of, with_children}
+use Rattle.node_pool.specs.Views.{View, after_entry, fresh_view, is_finished, open_node, with_children}
 use Rattle.node_pool.specs.declared.node.OpenNode.{OpenNode}
 use Rattle.node_pool.specs.declared.pick.Pick.{Pick}
 use Rattle.node_pool.specs.declared.pick.Pick.TheVariants.{CutLoop, Heuristic, Node, Nothing, Over}
@@ -49,7 +49,7 @@ use Rattle.task_steps.specs.Lawful.{search_law}
 use Rattle.task_steps.specs.Leaves.{weights_of}
 use Rattle.task_steps.specs.LimitCauses.{HasLimitCause, IsLimitCause}
 use Rattle.task_steps.specs.Rules.{begin_by, begin_of, chunk_of, rules, search_view}
-use Rattle.task_steps.specs.Tasks.{after_passes, after_point, ascent_of, child_name, closing_chunk, end_entries, is_found, kept_child, next_ordinal, node_chunk, on_point, progress_of, splitting_chunk}
+use Rattle.task_steps.specs.Tasks.{after_passes, after_point, ascent_of, child_name, closing_chunk, end_entries, is_found, kept_child, next_ordinal, on_point, progress_of, splitting_chunk}
 use Rattle.task_steps.specs.declared.answer.Best.{Best}
 use Rattle.task_steps.specs.declared.answer.Status.{Status}
 use Rattle.task_steps.specs.declared.answer.Status.TheVariants.{StoreLimit, WorkLimit}

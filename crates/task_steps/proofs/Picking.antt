@@ -1,5 +1,4 @@
 -- A task takes the best open node.
-use Rattle.std.proofs.Common.{◌≡◌, refl}
 use Rattle.node_pool.specs.Lemmas.Orders.{best_is_least}
 use Rattle.node_pool.specs.Views.{view_of}
 use Rattle.task_steps.specs.Picks.{BestIsTaken}

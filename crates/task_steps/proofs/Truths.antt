@@ -1,6 +1,6 @@
 -- Answers are true.
-use Rattle.std.proofs.Common.{◌≡◌, ◌∙◌, ℕ, zero, suc, Bool, true, false, ◌&&◌, nat_eq, if◌then◌else◌, List, [], ◌∷◌, ◌++◌, length, map, Option, Some, None, refl, sym, ap, subst, arith}
-use Rattle.ip_core.specs.Sides.{Sides, IsPaired}
+use Rattle.std.proofs.Common.{◌≡◌, ◌∙◌, ℕ, Bool, true, false, nat_eq, if◌then◌else◌, List, [], ◌∷◌, ◌++◌, length, map, Option, Some, None, refl, sym, ap, subst, arith}
+use Rattle.ip_core.specs.Sides.{IsPaired}
 use Rattle.ip_core.specs.Models.{IsModel}
 use Rattle.ip_core.specs.declared.model.ModelParts.{ModelParts}
 use Rattle.search_truth.specs.Search.{IsTrueAnswer}
@@ -20,7 +20,7 @@ use Rattle.task_steps.specs.Answers.{answer_of, best_found, finished_status, spl
 use Rattle.task_steps.specs.Fits.{FitsLocal, FitsView}
 use Rattle.task_steps.specs.Lawful.{search_law}
 use Rattle.task_steps.specs.Rules.{rules}
-use Rattle.task_steps.specs.Sound.{IsFound, IsSound, best_point, boxes_of, names_of, searched_of}
+use Rattle.task_steps.specs.Sound.{IsFound, IsSound, best_point, boxes_of, searched_of}
 use Rattle.task_steps.specs.Truth.{IsHistory, IsTrueAnswer as IsTrueOf, IsTrueStatus}
 use Rattle.task_steps.specs.declared.answer.Best.{Best}
 use Rattle.task_steps.specs.declared.answer.Status.{Status}
@@ -28,7 +28,7 @@ use Rattle.task_steps.specs.declared.answer.Status.TheVariants.{StoreLimit, Work
 use Rattle.task_steps.specs.declared.local.Local.{Local}
 use Rattle.task_steps.specs.Lemmas.Feasible.{and_true}
 use Rattle.task_steps.specs.Lemmas.NameCounts.{eq_from_test}
-use Rattle.task_steps.specs.Lemmas.Histories.{follow_with, view_with, with_settings}
+use Rattle.task_steps.specs.Lemmas.Histories.{follow_with, view_with}
 
 nothing_in : {A : Type 0} (xs : List A) → nat_eq (length xs) 0 ≡ true → xs ≡ []
 nothing_in [] h = refl

@@ -3,7 +3,7 @@ use Rattle.std.proofs.Common.{◌≡◌, ◌∙◌, ◌<◌, ◌^◌, ℕ, List,
 use Rattle.ip_core.specs.Models.{IsModel}
 use Rattle.ip_core.specs.Sides.{IsPaired}
 use Rattle.ip_core.specs.declared.model.ModelParts.{ModelParts}
-use Rattle.work_stamp.specs.Histories.{FollowInTurn, under}
+use Rattle.work_stamp.specs.Histories.{under}
 use Rattle.work_stamp.specs.Taskers.{IsLawful, Standing, standing, view_of as rules_view}
 use Rattle.work_stamp.specs.declared.entry.Entry.{Entry}
 use Rattle.work_stamp.specs.declared.key.Key.{Key}

@@ -180,6 +180,7 @@ fn is_answer(answer: &Answer, status: Status, wanted: Option<(i64, &[i64])>) -> 
 }
 
 /// A run of the search of a model by one slot or two, what its history is, and what it answers.
+#[derive(Clone, Copy)]
 struct Run {
     dense: DenseModel<'static>,
     slots: u32,

@@ -1,5 +1,5 @@
 -- The laws on agreement.
-use Rattle.std.proofs.Common.{◌≡◌, ◌∙◌, ℕ, ◌+◌, ◌-◌, ◌<◌, ◌≤◌, ◌^◌, Bool, true, false, ◌||◌, nat_eq, List, [], ◌∷◌, ◌++◌, length, get_or, set, ℤ, ◌≤ℤ◌, Option, is_none, Some, None, refl, sym, subst, arith}
+use Rattle.std.proofs.Common.{◌≡◌, ℕ, ◌+◌, ◌<◌, ◌≤◌, ◌^◌, Bool, true, false, ◌||◌, nat_eq, List, [], ◌∷◌, ◌++◌, length, get_or, set, Option, is_none, Some, None, refl, sym, subst, arith}
 use Rattle.std.proofs.lemmas.Bool.{ne_eqb, true≢false}
 use Rattle.std.proofs.lemmas.Int.{ints}
 use Rattle.std.proofs.lemmas.Option.{none-some}
@@ -21,8 +21,8 @@ use Rattle.node_pool.specs.Views.{View, after_entry, fresh_view, is_known, view_
 use Rattle.node_pool.specs.declared.settings.SearchSettings.{SearchSettings}
 use Rattle.task_steps.specs.Agrees.{Agrees, MayFollowIn, Stands}
 use Rattle.task_steps.specs.Answers.{best_after, best_found}
-use Rattle.task_steps.specs.Claims.{Claim, HasHold, Held, IsAt, IsAtTask, IsDue, IsOn, IsOwed, IsReady, Meets, claim_after, claims_with, count_left, one_if}
-use Rattle.task_steps.specs.Fits.{FitsLocal, FitsTask, IsTask}
+use Rattle.task_steps.specs.Claims.{Claim, IsAt, IsAtTask, IsDue, IsReady, Meets, claim_after, claims_with}
+use Rattle.task_steps.specs.Fits.{FitsLocal, FitsTask}
 use Rattle.task_steps.specs.Rules.{begin_of, chunk_of, rules, task_on}
 use Rattle.task_steps.specs.Tasks.{child_name, next_ordinal}
 use Rattle.task_steps.specs.declared.answer.Best.{Best}

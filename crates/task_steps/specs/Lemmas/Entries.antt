@@ -1,5 +1,5 @@
 -- What one more entry changes of a view.
-use Rattle.std.proofs.Common.{◌≡◌, ◌∙◌, ℕ, zero, suc, ◌+◌, ◌≤◌, Bool, true, false, ◌||◌, nat_eq, List, [], ◌∷◌, ◌++◌, ℤ, ◌≤ℤ◌, refl, sym, ap, arith}
+use Rattle.std.proofs.Common.{◌≡◌, ◌∙◌, ℕ, zero, suc, ◌+◌, ◌≤◌, Bool, true, false, ◌||◌, nat_eq, List, [], ◌∷◌, ◌++◌, ℤ, ◌≤ℤ◌, refl, ap, arith}
 use Rattle.std.specs.Int.{int_min}
 use Rattle.std.specs.List.{list_any}
 use Rattle.std.proofs.lemmas.Int.{ints, clamps}
@@ -13,7 +13,7 @@ use Rattle.node_pool.specs.Lemmas.Boxes.{boxes_are_parts}
 use Rattle.node_pool.specs.Nodes.{insert_open}
 use Rattle.node_pool.specs.Views.{View, after_entry, is_known, open_node, with_branch, with_children, without_held}
 use Rattle.node_pool.specs.declared.node.OpenNode.{OpenNode}
-use Rattle.task_steps.specs.Claims.{count_left, count_name, count_open, one_if}
+use Rattle.task_steps.specs.Claims.{count_left, count_name, one_if}
 use Rattle.task_steps.specs.Lemmas.NameCounts.{count_inserted, count_last, name_taken, open_taken}
 
 -- whether an entry makes a name: a split makes those of both children

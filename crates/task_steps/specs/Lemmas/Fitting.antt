@@ -1,5 +1,5 @@
 -- A view that fits does so after one more entry.
-use Rattle.std.proofs.Common.{◌≡◌, ◌∙◌, ℕ, zero, suc, ◌+◌, ◌-◌, ◌<◌, ◌≤◌, ◌^◌, Bool, true, false, ◌||◌, nat_eq, List, [], ◌∷◌, length, ℤ, ◌≤ℤ◌, pos, Option, Some, None, All, refl, sym, subst, arith}
+use Rattle.std.proofs.Common.{◌≡◌, ◌∙◌, ℕ, zero, suc, ◌+◌, ◌-◌, ◌<◌, ◌≤◌, ◌^◌, Bool, true, false, ◌||◌, nat_eq, List, [], ◌∷◌, length, ℤ, ◌≤ℤ◌, pos, All, refl, sym, subst, arith}
 use Rattle.std.proofs.lemmas.Bool.{false≢true}
 use Rattle.std.proofs.lemmas.Int.{ints}
 use Rattle.std.proofs.lemmas.List.Elements.{All-head, All-tail}
@@ -13,7 +13,7 @@ use Rattle.search_truth.proofs.Within.{within_high_child, within_low_child}
 use Rattle.work_stamp.specs.declared.entry.Entry.{Entry}
 use Rattle.work_stamp.specs.declared.entry.Entry.TheVariants.{Start, CutStart, HeurStart, Done, Found, Cut, Split, Closed, Halt}
 use Rattle.node_pool.specs.Branchings.{box_of}
-use Rattle.node_pool.specs.Follows.{IsHeld, MayFollow, MayJoin, MaySplit}
+use Rattle.node_pool.specs.Follows.{IsHeld, MayFollow, MayJoin}
 use Rattle.node_pool.specs.Laws.{AreKnown}
 use Rattle.node_pool.specs.Lemmas.Boxes.{boxes_are_parts}
 use Rattle.node_pool.specs.Views.{View, after_entry, fresh_view, is_known}

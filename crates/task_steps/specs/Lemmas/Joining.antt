@@ -1,6 +1,5 @@
 -- A history that meets all claims meets them after an entry that is due.
-use Rattle.std.proofs.Common.{◌≡◌, ◌∙◌, ℕ, zero, suc, ◌+◌, ◌-◌, ◌<◌, ◌≤◌, ◌^◌, Bool, true, false, nat_eq, List, [], ◌∷◌, ◌++◌, ℤ, ◌≤ℤ◌, Option, Some, None, refl, sym, ap, subst, arith}
-use Rattle.std.specs.Int.{int_min}
+use Rattle.std.proofs.Common.{◌≡◌, ◌∙◌, ℕ, zero, suc, ◌+◌, ◌<◌, ◌≤◌, ◌^◌, Bool, true, false, nat_eq, List, [], ◌∷◌, ◌++◌, ℤ, ◌≤ℤ◌, Option, Some, refl, sym, ap, subst, arith}
 use Rattle.std.proofs.lemmas.Bool.{false≢true, ne_eqb}
 use Rattle.std.proofs.lemmas.Int.{ints, clamps}
 use Rattle.std.proofs.lemmas.Option.{none-some, same_Some}
@@ -9,20 +8,20 @@ use Rattle.ip_core.specs.Sides.{Sides}
 use Rattle.ip_core.specs.declared.model.ModelParts.{ModelParts}
 use Rattle.search_truth.specs.Boxes.{IsClosed, high_child, low_child}
 use Rattle.work_stamp.specs.declared.entry.Entry.{Entry}
-use Rattle.work_stamp.specs.declared.entry.Entry.TheVariants.{Start, CutStart, HeurStart, Done, Found, Cut, Split, Closed, Halt}
+use Rattle.work_stamp.specs.declared.entry.Entry.TheVariants.{Start, Done, Found, Split, Closed, Halt}
 use Rattle.node_pool.specs.Branchings.{box_of}
 use Rattle.node_pool.specs.Follows.{IsHeld, IsOpen, IsValued, MayFollow}
 use Rattle.node_pool.specs.Lemmas.Boxes.{boxes_are_parts}
 use Rattle.node_pool.specs.Nodes.{without_name}
 use Rattle.node_pool.specs.Views.{View, after_entry, is_known}
 use Rattle.task_steps.specs.Answers.{best_after}
-use Rattle.task_steps.specs.Claims.{Claim, HasHeld, HasHold, Held, Holds, IsDone, IsDue, IsOwed, IsSplitNow, Meets, claim_after, claims_with, count_left, count_name, count_open, child_held, hold_after_split, one_if}
+use Rattle.task_steps.specs.Claims.{Claim, HasHeld, HasHold, Held, Holds, IsDone, IsOwed, IsSplitNow, Meets, claim_after, claims_with, count_left, count_name, child_held, hold_after_split, one_if}
 use Rattle.task_steps.specs.Keeps.{keep_of}
 use Rattle.task_steps.specs.Tasks.{child_name, next_ordinal}
 use Rattle.task_steps.specs.declared.answer.Best.{Best}
 use Rattle.task_steps.specs.declared.keep.Keep.{Keep}
 use Rattle.task_steps.specs.declared.keep.Keep.TheVariants.{Low, High, Neither}
-use Rattle.task_steps.specs.Lemmas.Entries.{IsNext, gone, made, next_of, split_cutoff}
+use Rattle.task_steps.specs.Lemmas.Entries.{IsNext, gone, made, next_of}
 use Rattle.task_steps.specs.Lemmas.Fitting.{held_known, left_known, view_fits}
 use Rattle.task_steps.specs.Lemmas.NameCounts.{among_counts, count_last, counts_among, eq_from_test, one_false, one_true, open_taken, test_itself}
 use Rattle.task_steps.specs.Lemmas.Owing.{AreApart, MakesNeither, apart_by_ordinal, apart_by_slot, meets_next, owed_next, quiet, split_makes_neither, still_held}

@@ -1,12 +1,12 @@
 -- A view stays true of the model with each entry that is due.
-use Rattle.std.proofs.Common.{◌≡◌, ◌∙◌, ℕ, zero, suc, ◌+◌, ◌<◌, ◌≤◌, ◌⊎◌, inl, inr, Bool, true, false, cond, nat_eq, List, [], ◌∷◌, ◌++◌, length, map, get_or, ℤ, pos, ◌+ℤ◌, ◌<ℤ◌, int_lt, Option, Some, None, Contains, refl, sym, ap, subst, arith}
+use Rattle.std.proofs.Common.{◌≡◌, ◌∙◌, ℕ, zero, suc, ◌+◌, ◌<◌, ◌≤◌, ◌⊎◌, inl, inr, Bool, true, false, cond, nat_eq, List, [], ◌∷◌, length, map, get_or, ℤ, pos, ◌+ℤ◌, ◌<ℤ◌, int_lt, Option, Some, None, Contains, refl, sym, ap, subst, arith}
 use Rattle.std.proofs.lemmas.Bool.{false≢true}
 use Rattle.std.proofs.lemmas.Int.{ints}
 use Rattle.ip_core.specs.Sides.{Sides}
 use Rattle.ip_core.specs.Models.{IsModel}
 use Rattle.ip_core.specs.declared.model.ModelParts.{ModelParts}
 use Rattle.ip_core.specs.Boxes.{greatest_value}
-use Rattle.search_truth.specs.Boxes.{IsClosed, high_child, low_child}
+use Rattle.search_truth.specs.Boxes.{IsClosed}
 use Rattle.search_truth.specs.Search.{Fate, Kept, Closed as IsShut, Parted, Same, Found as IsNewBest, More, cutoff_of}
 use Rattle.search_truth.proofs.Values.{value_at-le_greatest}
 use Rattle.work_stamp.specs.declared.entry.Entry.{Entry}
@@ -18,7 +18,7 @@ use Rattle.node_pool.specs.Lemmas.Boxes.{boxes_are_parts}
 use Rattle.node_pool.specs.Views.{View, after_entry, is_known}
 use Rattle.node_pool.specs.declared.node.OpenNode.{OpenNode}
 use Rattle.task_steps.specs.Answers.{is_better, with_found}
-use Rattle.task_steps.specs.Claims.{count_left, count_name, count_open, one_if}
+use Rattle.task_steps.specs.Claims.{count_left, count_name, one_if}
 use Rattle.task_steps.specs.Sound.{IsFound, IsSound, best_point, boxes_of, names_of, searched_of}
 use Rattle.task_steps.specs.declared.answer.Best.{Best}
 use Rattle.task_steps.specs.Lemmas.Entries.{IsNext, gone, made, next_of, split_cutoff}
