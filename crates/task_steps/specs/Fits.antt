@@ -1,0 +1,55 @@
+-- Which tasks the calls take.
+use Rattle.std.specs.Prelude.{ℕ, ◌≡◌, ◌≤◌, ◌<◌, ◌^◌, true, pos, ◌≤ℤ◌, unsigned_abs, Option, Some, None}
+use Rattle.ip_core.specs.Numbers.{int_at}
+use Rattle.ip_core.specs.Sides.{Sides, IsPaired}
+use Rattle.ip_core.specs.Boxes.{IsWithin}
+use Rattle.ip_core.specs.declared.model.ModelParts.{ModelParts}
+use Rattle.node_pool.specs.Branchings.{box_of}
+use Rattle.node_pool.specs.Laws.{AreKnown}
+use Rattle.node_pool.specs.Views.{View, is_known}
+use Rattle.task_steps.specs.declared.local.Local.{Local}
+use Rattle.task_steps.specs.declared.local.Task.{Task}
+use Rattle.task_steps.specs.declared.task_chunk.Worker.{Worker}
+
+-- both ends of each column lie within the limit of bounds
+pub record IsSmall (s : Sides) : Type 0 where
+  pub lows : (j : ℕ) → unsigned_abs (int_at s.lows j) ≤ 2 ^ 31
+  pub highs : (j : ℕ) → unsigned_abs (int_at s.highs j) ≤ 2 ^ 31
+
+-- a task whose box lies in the root box, at one of its eight nodes; its cutoff is at most 2^51
+pub record IsTask (m : ModelParts) (task : Task) : Type 0 where
+  pub word : task.node < 2 ^ 64
+  pub within : IsWithin m.root task.bounds
+  pub paired : IsPaired task.bounds
+  pub begun : 1 ≤ task.nodes
+  pub nodes : task.nodes ≤ 8
+  pub cutoff : task.cutoff ≤ℤ pos (2 ^ 51)
+
+-- one of at most 64 slots, with a count of splits that stays at 2^37 once it is there
+pub record IsWorker (worker : Worker) : Type 0 where
+  pub slot : worker.slot < 64
+  pub few : worker.splits ≤ 2 ^ 37
+
+-- the same of a task, with nothing to say where there is none
+abbrev pub FitsTask : ModelParts → Option Task → Type 0
+FitsTask m None = Unit {0}
+FitsTask m (Some task) = IsTask m task
+
+-- a local whose task fits
+pub record FitsLocal (m : ModelParts) (l : Local) : Type 0 where
+  pub slot : l.slot < 64
+  pub few : l.splits ≤ 2 ^ 37
+  pub task : FitsTask m l.task
+
+-- a node with a name of one word, whose box lies in the root box
+pub record IsBoxed (m : ModelParts) (v : View) (name : ℕ) : Type 0 where
+  pub word : name < 2 ^ 64
+  pub within : IsWithin m.root (box_of m.root v.branches name)
+  pub paired : IsPaired (box_of m.root v.branches name)
+
+-- a view whose open and held nodes have known names, and in which each known name has a box in
+-- the root box; its cutoff is at most 2^51
+pub record FitsView (m : ModelParts) (v : View) : Type 0 where
+  pub known : AreKnown v
+  pub boxed : (name : ℕ) → is_known v name ≡ true → IsBoxed m v name
+  pub cutoff : v.cutoff ≤ℤ pos (2 ^ 51)

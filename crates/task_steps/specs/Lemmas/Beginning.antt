@@ -1,0 +1,182 @@
+-- What a slot between tasks does.
+use Rattle.std.proofs.Common.{◌≡◌, ℕ, Bool, true, false, ◌||◌, cond, nat_eq, List, [], ◌∷◌, Option, is_none, Some, None, All, refl, sym, ap, subst, arith}
+use Rattle.std.proofs.lemmas.List.Elements.{All-cons, All-head, All-nil}
+use Rattle.std.proofs.lemmas.Option.{none-some, same_Some}
+use Rattle.ip_core.specs.declared.model.ModelParts.{ModelParts}
+use Rattle.work_stamp.specs.Taskers.{AfterBegin, HaveWords}
+use Rattle.work_stamp.specs.Writable.{HasWords}
+use Rattle.work_stamp.specs.declared.entry.Entry.{Entry}
+use Rattle.work_stamp.specs.declared.entry.Entry.TheVariants.{Start}
+use Rattle.work_stamp.specs.declared.task.Begin.TheVariants.{Take, Idle, End}
+use Rattle.node_pool.specs.Follows.{IsOpen}
+use Rattle.node_pool.specs.Nodes.{first_named}
+use Rattle.node_pool.specs.Picks.{best_open, first_name, node_pick, pick_of, wants_cuts, wants_heuristic}
+use Rattle.node_pool.specs.Views.{View, is_finished, is_known}
+use Rattle.node_pool.specs.declared.node.OpenNode.{OpenNode}
+use Rattle.node_pool.specs.declared.pick.Pick.{Pick}
+use Rattle.node_pool.specs.declared.pick.Pick.TheVariants.{CutLoop, Heuristic, Node, Nothing, Over}
+use Rattle.task_steps.specs.Fits.{FitsLocal, FitsView, IsBoxed}
+use Rattle.task_steps.specs.Rules.{begin_of, begin_by, task_on}
+use Rattle.task_steps.specs.declared.local.Local.{Local}
+use Rattle.task_steps.specs.Lemmas.NameCounts.{ne_from_test}
+
+node_named : (heuristic : Bool) (o : Option ℕ) (name : ℕ) → node_pick heuristic o ≡ Node name
+    → o ≡ Some name
+node_named true None name same = absurd (cc)
+node_named false None name same = absurd (cc)
+node_named true (Some node) name same = absurd (cc)
+node_named false (Some node) name same = cc
+
+pick_named : (over cuts heuristic : Bool) (o : Option ℕ) (name : ℕ)
+    → cond over Over (cond cuts CutLoop (node_pick heuristic o)) ≡ Node name → o ≡ Some name
+pick_named true cuts heuristic o name same = absurd (cc)
+pick_named false true heuristic o name same = absurd (cc)
+pick_named false false heuristic o name same = node_named heuristic o name same
+
+-- a node that is picked is the best open one
+pub pick_best : (v : View) (name : ℕ) → pick_of v ≡ Node name → best_open v ≡ Some name
+pick_best v name same = pick_named (v.has_halt || is_finished v) (wants_cuts v) (wants_heuristic v)
+    (best_open v) name same
+
+-- the first open node is open
+
+open_cases : (name : ℕ) (x : OpenNode) (others : Option OpenNode) (b : Bool)
+    → nat_eq x.name name ≡ b
+    → x.name ≡ name → cond b (Some x) others ≡ Some x
+open_cases name x others true is named = refl
+open_cases name x others false is named = absurd (ne_from_test x.name name is named)
+
+first_open : (nodes : List OpenNode) (name : ℕ) → first_name nodes ≡ Some name
+    → (node : OpenNode) × (first_named name nodes ≡ Some node)
+first_open [] name same = absurd (none-some name same)
+first_open (x ∷ xs) name same = (
+  x,
+  open_cases name x (first_named name xs) (nat_eq x.name name) refl
+      (same_Some x.name name same),
+)
+
+-- a node that is picked is open
+pub pick_open : (v : View) (name : ℕ) → pick_of v ≡ Node name → IsOpen v name
+pick_open v name same =
+    let found = first_open v.open_nodes name (pick_best v name same) in
+    record { node = found.0; first = found.1 }
+
+first_known : (v : View) (nodes : List OpenNode) (name : ℕ) → first_name nodes ≡ Some name
+    → All (λ node. is_known v node.name ≡ true) nodes → is_known v name ≡ true
+first_known v [] name same all = absurd (none-some name same)
+first_known v (x ∷ xs) name same all =
+    subst (λ (n : ℕ). is_known v n ≡ true) (same_Some x.name name same)
+    (All-head (λ (node : OpenNode). is_known v node.name ≡ true) x xs all)
+
+-- and has a box in the root box
+pub pick_boxed : (m : ModelParts) (v : View) (name : ℕ) → FitsView m v → pick_of v ≡ Node name
+    → IsBoxed m v name
+pick_boxed m v name fits same =
+    fits.boxed name (first_known v v.open_nodes name (pick_best v name same) fits.known.opened)
+
+-- the local of a slot that takes a node fits
+pub task_fits : (m : ModelParts) (v : View) (l : Local) (node : ℕ) → FitsView m v → FitsLocal m l
+    → IsBoxed m v node → FitsLocal m (record l { task = Some (task_on m v node) })
+task_fits m v l node view fits boxed = record {
+  slot = fits.slot;
+  few = fits.few;
+  task = record {
+    word = boxed.word;
+    within = boxed.within;
+    paired = boxed.paired;
+    begun = omega arith;
+    nodes = omega arith;
+    cutoff = view.cutoff;
+  };
+}
+
+begin_cases : (m : ModelParts) (v : View) (l : Local) (pick : Pick) → pick_of v ≡ pick
+    → FitsView m v → FitsLocal m l → FitsLocal m (begin_by m v l pick).local
+begin_cases m v l Over same view fits = fits
+begin_cases m v l Nothing same view fits = fits
+begin_cases m v l CutLoop same view fits = fits
+begin_cases m v l (Heuristic node) same view fits = fits
+begin_cases m v l (Node node) same view fits =
+    task_fits m v l node view fits (pick_boxed m v node view same)
+
+-- a slot that begins leaves a local that fits
+pub begin_fits : (m : ModelParts) (v : View) (l : Local) → FitsView m v → FitsLocal m l
+    → FitsLocal m (begin_of m v l).local
+begin_fits m v l view fits = begin_cases m v l (pick_of v) refl view fits
+
+-- what a slot takes is an open node
+pub record IsTaken (m : ModelParts) (v : View) (l : Local) (es : List Entry)
+    (after : AfterBegin Local) : Type 0 where
+  pub node : ℕ
+  pub picked : pick_of v ≡ Node node
+  pub entries : es ≡ Start node ∷ []
+  pub local : after.local ≡ record l { task = Some (task_on m v node) }
+
+end_takes_none : (es : List Entry) → End ≡ Take es → ⊥
+end_takes_none es same = cc
+
+idle_takes_none : (es : List Entry) → Idle ≡ Take es → ⊥
+idle_takes_none es same = cc
+
+same_taken : (xs ys : List Entry) → Take xs ≡ Take ys → ys ≡ xs
+same_taken xs ys same = cc
+
+taken_cases : (m : ModelParts) (v : View) (l : Local) (es : List Entry) (pick : Pick)
+    → pick_of v ≡ pick → (begin_by m v l pick).does ≡ Take es
+    → IsTaken m v l es (begin_by m v l pick)
+taken_cases m v l es Over is same = absurd (end_takes_none es same)
+taken_cases m v l es Nothing is same = absurd (idle_takes_none es same)
+taken_cases m v l es CutLoop is same = absurd (idle_takes_none es same)
+taken_cases m v l es (Heuristic node) is same = absurd (idle_takes_none es same)
+taken_cases m v l es (Node node) is same = record {
+  node = node;
+  picked = is;
+  entries = same_taken (Start node ∷ []) es same;
+  local = refl;
+}
+
+pub taken_is : (m : ModelParts) (v : View) (l : Local) (es : List Entry)
+    → (begin_of m v l).does ≡ Take es → IsTaken m v l es (begin_of m v l)
+taken_is m v l es same = taken_cases m v l es (pick_of v) refl same
+
+-- a task that is taken has begun
+pub take_begins : (m : ModelParts) (v : View) (l : Local) (es : List Entry)
+    → (begin_of m v l).does ≡ Take es → is_none (begin_of m v l).local.task ≡ false
+take_begins m v l es same = ap (λ (x : Local). is_none x.task) (taken_is m v l es same).local
+
+-- its entry has words
+pub begin_words : (m : ModelParts) (v : View) (l : Local) (es : List Entry) → FitsView m v
+    → (begin_of m v l).does ≡ Take es → HaveWords es
+begin_words m v l es fits same =
+    let taken = taken_is m v l es same in
+    let word = (pick_boxed m v taken.node fits taken.picked).word in
+    subst HaveWords (sym taken.entries) (record {
+      each = All-cons HasWords (Start taken.node) [] (record { writable = tt; in_range = word })
+          (All-nil HasWords);
+    })
+
+idle_cases : (m : ModelParts) (v : View) (l : Local) (pick : Pick)
+    → (begin_by m v l pick).does ≡ Idle → (begin_by m v l pick).local ≡ l
+idle_cases m v l Over same = absurd (cc)
+idle_cases m v l Nothing same = refl
+idle_cases m v l CutLoop same = refl
+idle_cases m v l (Heuristic node) same = refl
+idle_cases m v l (Node node) same = absurd (cc)
+
+-- a slot that waits is left as it was
+pub idle_stays : (m : ModelParts) (v : View) (l : Local) → (begin_of m v l).does ≡ Idle
+    → (begin_of m v l).local ≡ l
+idle_stays m v l same = idle_cases m v l (pick_of v) same
+
+end_cases : (m : ModelParts) (v : View) (l : Local) (pick : Pick) → (begin_by m v l pick).does ≡ End
+    → (begin_by m v l pick).local ≡ l
+end_cases m v l Over same = refl
+end_cases m v l Nothing same = refl
+end_cases m v l CutLoop same = refl
+end_cases m v l (Heuristic node) same = refl
+end_cases m v l (Node node) same = absurd (cc)
+
+-- and so is one that is over
+pub end_stays : (m : ModelParts) (v : View) (l : Local) → (begin_of m v l).does ≡ End
+    → (begin_of m v l).local ≡ l
+end_stays m v l same = end_cases m v l (pick_of v) same

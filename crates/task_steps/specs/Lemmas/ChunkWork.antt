@@ -1,0 +1,93 @@
+-- What a chunk counts is 1, its passes and its ascent.
+use Rattle.std.proofs.Common.{◌≡◌, ◌∙◌, ◌+◌, ◌^◌, ℕ, ◌≤◌, Bool, true, false, if◌then◌else◌, List, [], ◌∷◌, ℤ, int_le, refl, ap, sym, arith, le_trans}
+use Rattle.ip_core.specs.Numbers.{int_at}
+use Rattle.ip_core.specs.Sides.{Sides}
+use Rattle.ip_core.specs.Truth.{value_at}
+use Rattle.ip_core.specs.declared.leaf.Closing.TheVariants.{Bound}
+use Rattle.ip_core.specs.declared.model.ModelParts.{ModelParts}
+use Rattle.row_propagate.specs.Passes.{propagation_of, Propagation}
+use Rattle.row_propagate.specs.declared.outcome.Outcome.{Outcome as Ended}
+use Rattle.row_propagate.specs.declared.outcome.Outcome.TheVariants as ended
+use Rattle.row_propagate.specs.declared.outcome.PassRun.{PassRun}
+use Rattle.dual_ascent.specs.Ascents.{ascent_work}
+use Rattle.dual_ascent.specs.declared.ascent.Ascent.{Ascent}
+use Rattle.work_stamp.specs.declared.entry.Entry.{Entry}
+use Rattle.work_stamp.specs.declared.entry.Entry.TheVariants.{Found}
+use Rattle.task_steps.specs.Columns.{middle, widest}
+use Rattle.task_steps.specs.Leaves.{weights_of}
+use Rattle.task_steps.specs.Tasks.{after_passes, after_point, ascent_of, closing_chunk, is_found, kept_child, node_chunk, on_point, progress_of, splitting_chunk}
+use Rattle.ip_core.specs.Models.{IsModel}
+use Rattle.task_steps.specs.Lemmas.Counts.{climb_little, passes_work}
+use Rattle.task_steps.specs.declared.local.Task.{Task}
+use Rattle.task_steps.specs.declared.task_chunk.TaskChunk.{TaskChunk}
+use Rattle.task_steps.specs.declared.task_chunk.Progress.{Progress}
+use Rattle.task_steps.specs.declared.task_chunk.Worker.{Worker}
+
+choice_work : (b : Bool) (x y : TaskChunk) (n : ℕ) → x.work ≡ n → y.work ≡ n
+    → (if b then x else y).work ≡ n
+choice_work true x y n first second = first
+choice_work false x y n first second = second
+
+after_point_work : (task : Task) (worker : Worker) (p : Progress) (a : Ascent) (cutoff : ℤ)
+    (found : List Entry) → (after_point task worker p a cutoff found).work ≡ p.work
+after_point_work task worker p a cutoff found =
+    let col = widest p.bounds in
+    let at = middle p.bounds col in
+    choice_work (int_le cutoff a.bound)
+    (closing_chunk task.node worker.splits found p (Bound (weights_of a.mults)))
+    (splitting_chunk task worker found cutoff p.work col at
+    (kept_child task.nodes (int_at a.point col) at) a.bound) p.work refl refl
+
+on_point_work : (m : ModelParts) (task : Task) (worker : Worker) (p : Progress) (a : Ascent)
+    (found : Bool) → (on_point m task worker p a found).work ≡ p.work
+on_point_work m task worker p a true = after_point_work task worker p a (value_at m a.point)
+    (Found (value_at m a.point) a.point ∷ [])
+on_point_work m task worker p a false = after_point_work task worker p a task.cutoff []
+
+open_work : (m : ModelParts) (task : Task) (worker : Worker) (p : Propagation) (o : Ended)
+    → o ≡ ended.Open → ascent_work m [] p.sides ≤ (after_passes m task worker p o).work
+open_work m task worker p o is =
+    let a = ascent_of m p.sides in
+    let same = on_point_work m task worker (progress_of p a.work) a (is_found m task.cutoff a) in
+    rw is (omega (arith, same))
+
+-- where the passes from the task's box leave it open, the chunk counts the ascent
+pub counts_ascent : (m : ModelParts) (worker : Worker) (task : Task) (start s : Sides)
+    (run : PassRun) → start ≡ task.bounds → s ≡ (propagation_of m.rows [] start).sides
+    → run ≡ (propagation_of m.rows [] start).run → run.outcome ≡ ended.Open
+    → ascent_work m [] s ≤ (node_chunk m worker task).work
+counts_ascent m worker task start s run start_is sides run_is goes =
+    let p = propagation_of m.rows [] task.bounds in
+    let passed : propagation_of m.rows [] start ≡ p =
+    ap (λ (b : Sides). propagation_of m.rows [] b) start_is in
+    let ended_open : p.run.outcome ≡ ended.Open =
+    ap (λ (q : Propagation). q.run.outcome) (sym passed)
+    ∙ sym (ap (λ (r : PassRun). r.outcome) run_is) ∙ goes in
+    let counted = open_work m task worker p p.run.outcome ended_open in
+    rw (sides ∙ ap (λ (q : Propagation). q.sides) passed) counted
+
+-- so a pulse that allows the chunk allows the ascent
+pub ascent_allowed : (m : ModelParts) (worker : Worker) (task : Task) (start s : Sides)
+    (run : PassRun) (n : ℕ) → start ≡ task.bounds → s ≡ (propagation_of m.rows [] start).sides
+    → run ≡ (propagation_of m.rows [] start).run → run.outcome ≡ ended.Open
+    → (node_chunk m worker task).work ≤ n → ascent_work m [] s ≤ n
+ascent_allowed m worker task start s run n start_is sides run_is goes allowed =
+    le_trans (counts_ascent m worker task start s run start_is sides run_is goes) allowed
+
+work_cases : (m : ModelParts) (task : Task) (worker : Worker) (p : Propagation) (o : Ended)
+    → (1 ≤ (after_passes m task worker p o).work)
+    × ((after_passes m task worker p o).work ≤ 1 + p.run.work + ascent_work m [] p.sides)
+work_cases m task worker p ended.Open =
+    let a = ascent_of m p.sides in
+    let same = on_point_work m task worker (progress_of p a.work) a (is_found m task.cutoff a) in
+    (omega (arith, same), omega (arith, same))
+work_cases m task worker p (ended.Conflict row) = (omega arith, omega arith)
+work_cases m task worker p (ended.Empty col) = (omega arith, omega arith)
+
+-- a chunk counts some work, and not too much
+pub chunk_counts : (m : ModelParts) (worker : Worker) (task : Task) → IsModel m
+    → (1 ≤ (node_chunk m worker task).work) × ((node_chunk m worker task).work ≤ 2 ^ 40)
+chunk_counts m worker task valid =
+    let p = propagation_of m.rows [] task.bounds in
+    let parts = work_cases m task worker p p.run.outcome in
+    (parts.0, omega (arith, parts.1, passes_work m task.bounds valid, climb_little m p.sides valid))

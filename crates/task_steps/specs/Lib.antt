@@ -1,0 +1,16 @@
+pub mod Columns
+pub mod Points
+pub mod Keeps
+pub mod Leaves
+pub mod Fits
+pub mod Tasks
+pub mod Rules
+pub mod Sound
+pub mod Answers
+pub mod Claims
+pub mod Agrees
+pub mod Lawful
+pub mod Truth
+pub mod LimitCauses
+pub mod Picks
+pub mod Lemmas

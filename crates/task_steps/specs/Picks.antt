@@ -1,0 +1,24 @@
+-- Which open node a slot takes.
+use Rattle.std.specs.Prelude.{◌≡◌, List, [], ◌∷◌, ℕ}
+use Rattle.ip_core.specs.declared.model.ModelParts.{ModelParts}
+use Rattle.work_stamp.specs.declared.entry.Entry.{Entry}
+use Rattle.work_stamp.specs.declared.entry.Entry.TheVariants.{Start}
+use Rattle.work_stamp.specs.declared.stamped.KeyedEntry.{KeyedEntry}
+use Rattle.work_stamp.specs.declared.task.Begin.TheVariants.{Take}
+use Rattle.node_pool.specs.Laws.{IsBest}
+use Rattle.node_pool.specs.Views.{View, view_of}
+use Rattle.node_pool.specs.declared.settings.SearchSettings.{SearchSettings}
+use Rattle.task_steps.specs.Rules.{begin_of}
+use Rattle.task_steps.specs.declared.local.Local.{Local}
+
+-- what a task publishes at its begin is the Start of the best open node
+pub record TakesBest (v : View) (entries : List Entry) : Type 0 where
+  pub name : ℕ
+  pub entry : entries ≡ Start name ∷ []
+  pub best : IsBest v name
+
+-- at every history
+abbrev pub BestIsTaken : Type 0
+BestIsTaken = (m : ModelParts) (settings : SearchSettings) (history : List KeyedEntry) (l : Local)
+    (entries : List Entry) → (begin_of m (view_of m settings history) l).does ≡ Take entries
+    → TakesBest (view_of m settings history) entries

@@ -1,0 +1,69 @@
+-- The search with bounds as a system of tasks.
+use Rattle.std.specs.Prelude.{ℕ, List, [], ◌∷◌, Option, Some, None, is_none}
+use Rattle.ip_core.specs.declared.model.ModelParts.{ModelParts}
+use Rattle.node_pool.specs.Branchings.{box_of}
+use Rattle.node_pool.specs.Picks.{pick_of}
+use Rattle.node_pool.specs.Views.{View, fresh_view, after_entry}
+use Rattle.node_pool.specs.declared.pick.Pick.{Pick}
+use Rattle.node_pool.specs.declared.pick.Pick.TheVariants.{CutLoop, Heuristic, Node, Nothing, Over}
+use Rattle.node_pool.specs.declared.settings.SearchSettings.{SearchSettings}
+use Rattle.work_stamp.specs.Taskers.{AfterBegin, Rules, AfterChunk, view_of}
+use Rattle.work_stamp.specs.declared.entry.Entry.TheVariants.{Start}
+use Rattle.work_stamp.specs.declared.stamped.KeyedEntry.{KeyedEntry}
+use Rattle.work_stamp.specs.declared.task.Begin.TheVariants.{Take, Idle, End}
+use Rattle.task_steps.specs.Tasks.{node_chunk}
+use Rattle.task_steps.specs.declared.local.Local.{Local}
+use Rattle.task_steps.specs.declared.local.Task.{Task}
+use Rattle.task_steps.specs.declared.task_chunk.TaskChunk.{TaskChunk}
+
+-- a slot that has split nothing, between tasks
+abbrev pub fresh_local : ℕ → Local
+fresh_local slot = record { slot = slot; splits = 0; task = None }
+
+-- a task on a node of the view, with the node's box and the cutoff of the view at its start
+abbrev pub task_on : ModelParts → View → ℕ → Task
+task_on m v node =
+    record { node = node; bounds = box_of m.root v.branches node; cutoff = v.cutoff; nodes = 1 }
+
+-- what a slot does for its pick: it takes the node, waits where nothing is open, and is over where
+-- the search is; a search by splits alone has no other pick
+abbrev pub begin_by : ModelParts → View → Local → Pick → AfterBegin Local
+begin_by m v l Over = record { does = End; local = l }
+begin_by m v l (Node node) =
+    record { does = Take (Start node ∷ []); local = record l { task = Some (task_on m v node) } }
+begin_by m v l Nothing = record { does = Idle; local = l }
+begin_by m v l CutLoop = record { does = Idle; local = l }
+begin_by m v l (Heuristic node) = record { does = Idle; local = l }
+
+-- what a slot between tasks does
+abbrev pub begin_of : ModelParts → View → Local → AfterBegin Local
+begin_of m v l = begin_by m v l (pick_of v)
+
+-- what a chunk leaves
+abbrev pub after_chunk : Local → TaskChunk → AfterChunk Local
+after_chunk l chunk = record {
+  gives = record { entries = chunk.entries; records = chunk.records; work = chunk.work };
+  local = record l { splits = chunk.splits; task = chunk.task };
+}
+
+-- a chunk of the slot's task; without a task nothing happens
+abbrev pub chunk_of : ModelParts → Local → Option Task → AfterChunk Local
+chunk_of m l None =
+    after_chunk l (record { entries = []; records = []; work = 0; task = None; splits = l.splits })
+chunk_of m l (Some task) =
+    after_chunk l (node_chunk m (record { slot = l.slot; splits = l.splits }) task)
+
+-- the definitions of the search
+abbrev pub rules : ModelParts → SearchSettings → Rules View Local
+rules m settings = record {
+  fresh_view = fresh_view m settings;
+  fresh_local = fresh_local;
+  absorb = λ v key entry. after_entry v entry;
+  at_start = λ l. is_none l.task;
+  begin = begin_of m;
+  chunk = λ l. chunk_of m l l.task;
+}
+
+-- the view of a history
+abbrev pub search_view : ModelParts → SearchSettings → List KeyedEntry → View
+search_view m settings history = view_of (rules m settings) history
