@@ -2,7 +2,7 @@
 use Rattle.std.proofs.Common.{◌≡◌, Bool, true, false, [], ◌∷◌, pos, negsuc, codes, Some, None, refl}
 use Rattle.std.specs.Fmt.{digits}
 use Rattle.ip_core.specs.declared.model.ModelParts.{ModelParts}
-use Rattle.plain_tasks.specs.declared.answer.Status.TheVariants.{Optimal, Infeasible, StoreLimit, WorkLimit}
+use Rattle.task_steps.specs.declared.answer.Status.TheVariants.{Optimal, Infeasible, StoreLimit, WorkLimit}
 use Rattle.xsearch.specs.Answer.{answer_text, objective_line}
 use Rattle.xsearch.specs.Refusals.{mps_refusal, model_refusal}
 

@@ -5,12 +5,12 @@ use Rattle.ip_core.specs.Truth.{value_at}
 use Rattle.ip_core.specs.declared.model.ModelParts.{ModelParts}
 use Rattle.mps_model.specs.MpsModels.{IsMpsModel}
 use Rattle.mps_model.specs.declared.model.MpsModel.{MpsModel}
-use Rattle.plain_tasks.specs.Sound.{IsFound}
-use Rattle.plain_tasks.specs.Truth.{IsTrueAnswer, IsTrueStatus}
-use Rattle.plain_tasks.specs.declared.answer.Answer.{Answer}
-use Rattle.plain_tasks.specs.declared.answer.Status.{Status}
-use Rattle.plain_tasks.specs.declared.answer.Status.TheVariants.{Optimal, Infeasible, StoreLimit, WorkLimit}
-use Rattle.plain_tasks.specs.declared.view.Best.{Best}
+use Rattle.task_steps.specs.Sound.{IsFound}
+use Rattle.task_steps.specs.Truth.{IsTrueAnswer, IsTrueStatus}
+use Rattle.task_steps.specs.declared.answer.Answer.{Answer}
+use Rattle.task_steps.specs.declared.answer.Status.{Status}
+use Rattle.task_steps.specs.declared.answer.Status.TheVariants.{Optimal, Infeasible, StoreLimit, WorkLimit}
+use Rattle.task_steps.specs.declared.answer.Best.{Best}
 use Rattle.width_admit.specs.Admission.{Admits, minimised_number}
 use Rattle.width_admit.specs.FilePoints.{file_objective}
 use Rattle.width_admit.proofs.FileAnswers.{admission_keeps_answers}

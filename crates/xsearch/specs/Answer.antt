@@ -2,9 +2,9 @@ use Rattle.std.specs.Prelude.{ℕ, if◌then◌else◌, List, [], ◌∷◌, ◌
 use Rattle.std.specs.Fmt.{signed_decimal}
 use Rattle.ip_core.specs.Texts.{decimal_text}
 use Rattle.ip_core.specs.declared.model.ModelParts.{ModelParts}
-use Rattle.plain_tasks.specs.declared.answer.Status.{Status}
-use Rattle.plain_tasks.specs.declared.answer.Status.TheVariants.{Optimal, Infeasible, StoreLimit, WorkLimit}
-use Rattle.plain_tasks.specs.declared.view.Best.{Best}
+use Rattle.task_steps.specs.declared.answer.Status.{Status}
+use Rattle.task_steps.specs.declared.answer.Status.TheVariants.{Optimal, Infeasible, StoreLimit, WorkLimit}
+use Rattle.task_steps.specs.declared.answer.Best.{Best}
 
 -- the objective of a value: with the constant, and negated where the model maximises
 abbrev pub objective_of : ModelParts → ℤ → ℤ

@@ -3,9 +3,9 @@ use Rattle.std.specs.Prelude.{ℕ, ◌≡◌, List, [], Option, Some, None, Resu
 use Rattle.ip_core.specs.declared.model.ModelParts.{ModelParts}
 use Rattle.mps_model.specs.Prints.{canonical_text}
 use Rattle.mps_model.specs.declared.model.MpsModel.{MpsModel}
-use Rattle.plain_tasks.specs.LimitCauses.{IsLimitCause}
-use Rattle.plain_tasks.specs.Truth.{IsTrueAnswer}
-use Rattle.plain_tasks.specs.declared.answer.Answer.{Answer}
+use Rattle.task_steps.specs.LimitCauses.{IsLimitCause}
+use Rattle.task_steps.specs.Truth.{IsTrueAnswer}
+use Rattle.task_steps.specs.declared.answer.Answer.{Answer}
 use Rattle.width_admit.specs.Admission.{Admits, refusal}
 use Rattle.width_admit.specs.declared.refusal.Refusal.{Refusal}
 use Rattle.sample_model.specs.Samples.{generated_model}
@@ -18,7 +18,7 @@ use Rattle.xsearch.specs.Answer.{answer_text}
 use Rattle.xsearch.specs.Endings.{exit_of}
 use Rattle.xsearch.specs.FileAnswers.{IsTrueOfFile}
 use Rattle.xsearch.specs.ModelFiles.{IsFileJob}
-use Rattle.xsearch.specs.Searches.{limits_of, machine_answer, machine_history}
+use Rattle.xsearch.specs.Searches.{limits_of, machine_answer, machine_history, settings_of}
 use Rattle.xsearch.specs.Writes.{IsWritten, solve_files}
 use Rattle.xsearch.specs.declared.output.Output.{Output}
 use Rattle.xsearch.specs.declared.output.Failure.{Failure}
@@ -35,7 +35,8 @@ pub record IsAnswer (m : ModelParts) (asked : SolveJob) (answer : Answer)
   pub text : output.text ≡ answer_text m answer.status answer.best
   pub files : output.files ≡ solve_files asked (machine_history m asked.tune) answer.status
   pub truth : IsTrueAnswer m answer
-  pub limit : IsLimitCause m (limits_of asked.tune) answer.status
+  pub limit : IsLimitCause m (settings_of asked.tune) (limits_of asked.tune)
+      answer.status
 
 -- the answer of the model that a file's model is admitted as, which is true of the file's own model
 pub record IsFileAnswer (asked : SolveJob) (mps : MpsModel)

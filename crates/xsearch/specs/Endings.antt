@@ -4,8 +4,8 @@ use Rattle.width_admit.specs.KindNumbers.{kind_of, index_of}
 use Rattle.xsearch_words.specs.Faults.{HasRisen, next_count}
 use Rattle.xsearch_words.specs.Sink.{GrowsBy, GrowsByFront, SinkState}
 use Rattle.xsearch.specs.Refusals.{words_refusal, length_refusal, mps_refusal, model_refusal}
-use Rattle.plain_tasks.specs.declared.answer.Status.{Status}
-use Rattle.plain_tasks.specs.declared.answer.Status.TheVariants as search
+use Rattle.task_steps.specs.declared.answer.Status.{Status}
+use Rattle.task_steps.specs.declared.answer.Status.TheVariants as search
 use Rattle.xsearch.specs.declared.output.Output.{Output}
 use Rattle.xsearch.specs.declared.output.Failure.{Failure}
 use Rattle.xsearch.specs.declared.output.Failure.TheVariants.{Words, Length, Mps, Model, ReadFailed, WriteFailed, Memory}

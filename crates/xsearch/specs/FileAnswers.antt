@@ -2,10 +2,10 @@
 use Rattle.std.specs.Prelude.{ℕ, ◌≡◌, ◌^◌, pos, ◌*ℤ◌, Option, Some, None}
 use Rattle.ip_core.specs.declared.model.ModelParts.{ModelParts}
 use Rattle.mps_model.specs.declared.model.MpsModel.{MpsModel}
-use Rattle.plain_tasks.specs.declared.answer.Answer.{Answer}
-use Rattle.plain_tasks.specs.declared.answer.Status.{Status}
-use Rattle.plain_tasks.specs.declared.answer.Status.TheVariants.{Optimal, Infeasible, StoreLimit, WorkLimit}
-use Rattle.plain_tasks.specs.declared.view.Best.{Best}
+use Rattle.task_steps.specs.declared.answer.Answer.{Answer}
+use Rattle.task_steps.specs.declared.answer.Status.{Status}
+use Rattle.task_steps.specs.declared.answer.Status.TheVariants.{Optimal, Infeasible, StoreLimit, WorkLimit}
+use Rattle.task_steps.specs.declared.answer.Best.{Best}
 use Rattle.width_admit.specs.FilePoints.{IsSolution, IsBestSolution, HasNoSolution, file_objective}
 use Rattle.xsearch.specs.Answer.{objective_of}
 

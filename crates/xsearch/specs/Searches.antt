@@ -2,9 +2,9 @@
 -- true needn't read it.
 use Rattle.ip_core.specs.declared.model.ModelParts.{ModelParts}
 use Rattle.node_pool.specs.declared.settings.SearchSettings.{SearchSettings}
-use Rattle.plain_tasks.specs.Answers.{answer_of}
-use Rattle.plain_tasks.specs.Rules.{rules}
-use Rattle.plain_tasks.specs.declared.answer.Answer.{Answer}
+use Rattle.task_steps.specs.Answers.{answer_of}
+use Rattle.task_steps.specs.Rules.{rules}
+use Rattle.task_steps.specs.declared.answer.Answer.{Answer}
 use Rattle.stamp_machine.specs.Machine.{history}
 use Rattle.stamp_machine.specs.declared.history.History.{History}
 use Rattle.stamp_machine.specs.declared.limits.Limits.{Limits}
@@ -18,9 +18,9 @@ limits_of tune = record { slots = tune.tasks; work = tune.work; store = tune.sto
 abbrev pub settings_of : Tune → SearchSettings
 settings_of tune = record { cuts = tune.cuts; heuristics = tune.heuristics }
 
--- the machine's history of the plain search
+-- the machine's history of the search
 abbrev pub machine_history : ModelParts → Tune → History
-machine_history m tune = history (rules m) (limits_of tune)
+machine_history m tune = history (rules m (settings_of tune)) (limits_of tune)
 
 -- its answer: how it ended, and the first found point of least value
 abbrev pub machine_answer : ModelParts → Tune → Answer

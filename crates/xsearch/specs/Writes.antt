@@ -2,7 +2,7 @@
 use Rattle.std.specs.Prelude.{ℕ, ◌≡◌, List, [], ◌∷◌, Option, Some, None, Result, Ok, Err}
 use Rattle.log_text.specs.Logs.{log_text}
 use Rattle.stamp_machine.specs.declared.history.History.{History}
-use Rattle.plain_tasks.specs.declared.answer.Status.{Status}
+use Rattle.task_steps.specs.declared.answer.Status.{Status}
 use Rattle.xsearch_words.specs.Outputs.{AreWritten, AreWrittenInPart, IsFailedWrite}
 use Rattle.xsearch_words.specs.Shelf.{ShelfState}
 use Rattle.xsearch_words.specs.declared.job.SolveJob.{SolveJob}

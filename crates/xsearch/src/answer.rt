@@ -3,7 +3,7 @@ ghost use Rattle.xsearch.specs.Answer.{HasOneEach, answer_text as answer_text_of
 
 use ip_core::{Model, Name, OutOfMemory, Text, decimal};
 use itoa::Buffer;
-use plain_tasks::{Answer, Best, Status};
+use task_steps::{Answer, Best, Status};
 use std::alloc::Global;
 
 /// The text of an answer: its status, and unless no point is feasible the point and its objective.

@@ -2,6 +2,7 @@ ghost use Rattle.std.specs.Prelude.{◌≡◌, IfOk};
 ghost use Rattle.ip_core.specs.declared.model.ModelParts.{ModelParts};
 ghost use Rattle.mps_model.specs.MpsModels.{IsMpsModel};
 ghost use Rattle.stamp_machine.specs.Limits.{AreLimits};
+ghost use Rattle.task_steps.specs.Answers.{splits_alone};
 ghost use Rattle.width_admit.specs.Admission.{IsCause};
 ghost use Rattle.xsearch.specs.Causes.{IsAnswer, IsSolved, IsSolvedFile};
 ghost use Rattle.xsearch.specs.ModelFiles.{IsFileJob, IsSmall};
@@ -21,8 +22,8 @@ use ip_core::{List, Model, OutOfMemory};
 use log_text::log_text;
 use mps_read::MpsModel;
 use node_pool::SearchSettings;
-use plain_tasks::{
-    PlainSearch, Status, answer_of, answers_are_true, histories_are_read, limits_are_met,
+use task_steps::{
+    Search, Status, answer_of, answers_are_true, histories_are_read, limits_are_met,
 };
 use stamp_machine::{History, Limits, run_alone};
 use std::alloc::Global;
@@ -100,7 +101,7 @@ fn answer(alloc: Global, model: Model, job: &SolveJob) -> Result<Output, OutOfMe
     ensures { IfOk result (λ output.
         IsAnswer model job.now (machine_answer model job.now.tune) output) }
 {
-    let search = PlainSearch::of(model);
+    let search = Search::new(model, settings_of(&job.tune));
     let limits = limits_of(&job.tune);
     let history = run_alone(alloc, &search, &limits)?;
     histories_are_read(&search, &limits);
@@ -153,9 +154,11 @@ fn limits_of(tune: &Tune) -> Limits
     }
 }
 
-/// The switches that are set.
+/// The switches that are set: there are no cuts and dives yet.
 fn settings_of(tune: &Tune) -> SearchSettings
-    ensures { result ≡ settings_of_tune tune.now }
+    requires { IsTune tune.now }
+    ensures value { result ≡ settings_of_tune tune.now }
+    ensures splits { result ≡ splits_alone }
 {
     SearchSettings {
         cuts: tune.cuts,

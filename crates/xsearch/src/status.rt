@@ -1,7 +1,7 @@
 ghost use Rattle.std.specs.Prelude.{◌≡◌};
 ghost use Rattle.xsearch.specs.Endings.{code_of, exit_of};
 
-use plain_tasks::Status;
+use task_steps::Status;
 
 /// How a run ended, for the system.
 #[derive(Clone, Copy, Debug, PartialEq, Eq)]

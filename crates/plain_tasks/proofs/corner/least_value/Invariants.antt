@@ -1,7 +1,0 @@
-use Rattle.std.proofs.Common.{◌≡◌}
-use Rattle.ip_core.specs.Numbers.{int_sum_below}
-use Rattle.ip_core.specs.Boxes.{least_share}
-use Rattle.plain_tasks.proofs.corner.least_value.Given as goal
-
-abbrev pub invariant-loop-j : goal.invariant-loop-j
-invariant-loop-j l = l.sum ≡ int_sum_below l.j (least_share l.model l.bounds)

@@ -1,5 +1,0 @@
-use Rattle.plain_tasks.proofs.LimitCauses.{limit_has_cause}
-use Rattle.plain_tasks.proofs.laws.limits_are_met.Goals as goal
-
-pub returns : goal.returns
-returns c = limit_has_cause c.args.search.now.model c.args.search.now.valid c.args.search.now.paired c.args.limits.now c.requires
