@@ -32,6 +32,10 @@ const ODD: &[u8] =
 const COVER: &[u8] =
     b"NAME cover\nROWS\n N c\n G a\nCOLUMNS\n M 'MARKER' 'INTORG'\n x c 1 a 2\n M 'MARKER' 'INTEND'\nRHS\n r a 3\nBOUNDS\n UP k x 5\nENDATA\n";
 
+/// 7x + 7y + 7z >= 8.
+const SEVENS: &[u8] =
+    b"NAME sevens\nROWS\n N c\n G a\nCOLUMNS\n M 'MARKER' 'INTORG'\n x c 3 a 7\n y c 3 a 7\n z c 3 a 7\n M 'MARKER' 'INTEND'\nRHS\n r a 8\nBOUNDS\n UP k x 1\n UP k y 1\n UP k z 1\nENDATA\n";
+
 /// x + y = 2 without costs.
 const PAIR: &[u8] =
     b"NAME pair\nROWS\n N c\n E a\nCOLUMNS\n M 'MARKER' 'INTORG'\n x a 1\n y a 1\n M 'MARKER' 'INTEND'\nRHS\n r a 2\nBOUNDS\n UP k x 1\n UP k y 1\nENDATA\n";
@@ -201,26 +205,28 @@ const CASES: [Case; 26] = [
         status: 0,
         output: b"status optimal\nobjective -9\nx = 9\n",
     },
+    // The root counts 1, a pass of 4 and 20 rounds of 10. The multiplier is 439, the bound 4.
     Case {
-        words: "solve m --tasks=1 --work=15",
-        model: COVER,
+        words: "solve m --tasks=1 --work=205",
+        model: SEVENS,
         status: 3,
-        output: b"status worklimit\nobjective 3\nx = 3\n",
+        output: b"status worklimit\nobjective none\n",
     },
     Case {
-        words: "solve m --tasks=1 --work=16",
-        model: COVER,
-        status: 0,
-        output: b"status optimal\nobjective 2\nx = 2\n",
+        words: "solve m --tasks=1 --work=206",
+        model: SEVENS,
+        status: 3,
+        output: b"status worklimit\nobjective 9\nx = 1\ny = 1\nz = 1\n",
     },
+    // One column counts 1, a pass of 1 and twelve rounds of 1.
     Case {
-        words: "solve m --tasks=1 --work=2",
+        words: "solve m --tasks=1 --work=14",
         model: ONE,
         status: 3,
         output: b"status worklimit\nobjective none\n",
     },
     Case {
-        words: "solve m --tasks=1 --work=3",
+        words: "solve m --tasks=1 --work=15",
         model: ONE,
         status: 0,
         output: b"status optimal\nobjective 0\nx = 0\n",
