@@ -4,3 +4,6 @@ pub mod Histories
 pub mod Truths
 pub mod Picking
 pub mod LimitCauses
+pub mod ChunkRecords
+pub mod LaterViews
+pub mod RecordTruths

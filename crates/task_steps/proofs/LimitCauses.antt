@@ -15,6 +15,7 @@ use Rattle.row_propagate.specs.Passes.{Propagation, propagation_of}
 use Rattle.row_propagate.specs.declared.outcome.Outcome.{Outcome as Ended}
 use Rattle.row_propagate.specs.declared.outcome.Outcome.TheVariants as ended
 use Rattle.dual_ascent.specs.declared.ascent.Ascent.{Ascent}
+use Rattle.leaf_truth.specs.Multipliers.{pairs_of}
 use Rattle.work_stamp.specs.Histories.{keyed_entry, FollowInTurn}
 use Rattle.work_stamp.specs.Taskers.{view_after}
 use Rattle.work_stamp.specs.declared.entry.Entry.{Entry}
@@ -46,7 +47,6 @@ use Rattle.task_steps.specs.Columns.{middle, widest}
 use Rattle.task_steps.specs.Fits.{FitsLocal, FitsView}
 use Rattle.task_steps.specs.Keeps.{number_of}
 use Rattle.task_steps.specs.Lawful.{search_law}
-use Rattle.task_steps.specs.Leaves.{weights_of}
 use Rattle.task_steps.specs.LimitCauses.{HasLimitCause, IsLimitCause}
 use Rattle.task_steps.specs.Rules.{begin_by, begin_of, chunk_of, rules, search_view}
 use Rattle.task_steps.specs.Tasks.{after_passes, after_point, ascent_of, child_name, closing_chunk, end_entries, is_found, kept_child, next_ordinal, on_point, progress_of, splitting_chunk}
@@ -164,23 +164,23 @@ splitting_quiet task worker found cutoff work col at keep bound h =
     (no_halt-append found (split ∷ []) h refl)
     (end_quiet keep)
 
-after_point_quiet : (task : Task) (worker : Worker) (p : Progress) (a : Ascent) (cutoff : ℤ)
-    (found : List Entry) → has_halt found ≡ false
-    → IsQuiet (after_point task worker p a cutoff found)
-after_point_quiet task worker p a cutoff found h =
+after_point_quiet : (m : ModelParts) (task : Task) (worker : Worker) (p : Progress) (a : Ascent)
+    (cutoff : ℤ) (found : List Entry) → has_halt found ≡ false
+    → IsQuiet (after_point m task worker p a cutoff found)
+after_point_quiet m task worker p a cutoff found h =
     let col = widest p.bounds in
     let mid = middle p.bounds col in
     by_test IsQuiet (int_le cutoff a.bound) _ _
-    (λ t. closing_quiet task.node worker.splits found p (Bound (weights_of a.mults)) h)
+    (λ t. closing_quiet task.node worker.splits found p (Bound (pairs_of (length m.rows) a.mults)) h)
     (λ t. splitting_quiet task worker found cutoff p.work col mid
     (kept_child task.nodes (int_at a.point col) mid) a.bound h)
 
 on_point_quiet : (m : ModelParts) (task : Task) (worker : Worker) (p : Progress) (a : Ascent)
     (found : Bool) → IsQuiet (on_point m task worker p a found)
 on_point_quiet m task worker p a true =
-    after_point_quiet task worker p a (value_at m a.point)
+    after_point_quiet m task worker p a (value_at m a.point)
     (Found (value_at m a.point) a.point ∷ []) refl
-on_point_quiet m task worker p a false = after_point_quiet task worker p a task.cutoff [] refl
+on_point_quiet m task worker p a false = after_point_quiet m task worker p a task.cutoff [] refl
 
 passes_quiet : (m : ModelParts) (task : Task) (worker : Worker) (p : Propagation) (o : Ended)
     → IsQuiet (after_passes m task worker p o)

@@ -1,15 +1,22 @@
 -- Chunks worked out by hand.
-use Rattle.std.proofs.Common.{◌≡◌, ℕ, [], ◌∷◌, ℤ, Some, None, pos, negsuc, true, false, refl}
+use Rattle.std.proofs.Common.{◌≡◌, ℕ, List, [], ◌∷◌, ℤ, Some, None, pos, negsuc, true, false, refl}
 use Rattle.ip_core.specs.Sides.{Sides}
+use Rattle.ip_core.specs.declared.leaf.Closing.{Closing}
 use Rattle.ip_core.specs.declared.leaf.Closing.TheVariants.{Conflict, Bound}
+use Rattle.ip_core.specs.declared.leaf.Record.{Record}
+use Rattle.ip_core.specs.declared.leaf.Tighten.{Tighten}
 use Rattle.ip_core.specs.declared.model.ModelParts.{ModelParts}
 use Rattle.ip_core.specs.declared.row.Row.{Row}
 use Rattle.ip_core.specs.declared.row_ref.RowRef.TheVariants.{Model}
+use Rattle.leaf_truth.specs.Laws.{leaf_of}
 use Rattle.work_stamp.specs.declared.entry.Entry.TheVariants.{Found, Split, Closed, Done}
-use Rattle.task_steps.specs.Leaves.{record_of, weights_of}
 use Rattle.task_steps.specs.Tasks.{child_name, next_ordinal, node_chunk}
 use Rattle.task_steps.specs.declared.local.Task.{Task}
 use Rattle.task_steps.specs.declared.task_chunk.Worker.{Worker}
+
+-- a closed node with the tightenings of its box, and what then closes it
+abbrev pub record_of : ℕ → List Tighten → Closing → Record
+record_of node steps why = record { node = node; leaf = leaf_of steps why }
 
 -- the first slot, after so many splits
 abbrev worker : ℕ → Worker
@@ -115,8 +122,3 @@ second_slot = refl
 -- an ordinal stays at 2^37
 pub last_ordinal : next_ordinal 137438953472 ≡ 137438953472
 last_ordinal = refl
-
--- rows of multiplier 0 are left out
-pub some_weights : weights_of (0 ∷ 7 ∷ 0 ∷ 2 ∷ [])
-    ≡ record { row = Model 1; weight = 7 } ∷ record { row = Model 3; weight = 2 } ∷ []
-some_weights = refl

@@ -9,9 +9,8 @@ use Rattle.work_stamp.specs.declared.stamped.KeyedEntry.{KeyedEntry}
 use Rattle.stamp_machine.specs.Machine.{as_history, moves}
 use Rattle.stamp_machine.specs.declared.history.History.{History}
 use Rattle.ip_core.specs.declared.model.ModelParts.{ModelParts}
-use Rattle.task_steps.specs.Leaves.{record_of}
 use Rattle.task_steps.specs.Rules.{rules}
-use Rattle.task_steps.proofs.WorkedRows.{free, odd}
+use Rattle.task_steps.proofs.WorkedRows.{free, odd, record_of}
 
 abbrev by : ℕ → Entry → KeyedEntry
 by stamp e = keyed_entry (record { stamp = stamp; slot = 0 }) e

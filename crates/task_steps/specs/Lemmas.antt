@@ -2,7 +2,7 @@
 -- is a part of what the calls promise, and such a part cites definitions and lemmas of specs/
 -- alone.
 pub mod Feasible
-pub mod PassRuns
+pub mod LawfulPasses
 pub mod Reasons
 pub mod Columns
 pub mod TaskChunks

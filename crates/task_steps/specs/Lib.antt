@@ -1,7 +1,6 @@
 pub mod Columns
 pub mod Points
 pub mod Keeps
-pub mod Leaves
 pub mod Fits
 pub mod Tasks
 pub mod Rules
@@ -13,4 +12,5 @@ pub mod Lawful
 pub mod Truth
 pub mod LimitCauses
 pub mod Picks
+pub mod Records
 pub mod Lemmas

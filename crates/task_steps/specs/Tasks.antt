@@ -1,5 +1,5 @@
 -- What a chunk of a task does.
-use Rattle.std.specs.Prelude.{ℕ, ◌+◌, ◌*◌, ◌^◌, min, Bool, ◌&&◌, ◌==◌, if◌then◌else◌, List, [], ◌∷◌, ◌++◌, Option, Some, None, ℤ, int_lt, int_le}
+use Rattle.std.specs.Prelude.{ℕ, ◌+◌, ◌*◌, ◌^◌, min, Bool, ◌&&◌, ◌==◌, if◌then◌else◌, List, [], ◌∷◌, ◌++◌, length, Option, Some, None, ℤ, int_lt, int_le}
 use Rattle.ip_core.specs.Numbers.{int_at}
 use Rattle.ip_core.specs.Sides.{Sides}
 use Rattle.ip_core.specs.Truth.{value_at}
@@ -13,11 +13,12 @@ use Rattle.row_propagate.specs.declared.outcome.Outcome.TheVariants as ended
 use Rattle.safe_bound.specs.Bounds.{lagrangian_bound, bound_point}
 use Rattle.dual_ascent.specs.Ascents.{ascent, ascent_work}
 use Rattle.dual_ascent.specs.declared.ascent.Ascent.{Ascent}
+use Rattle.leaf_truth.specs.Laws.{leaf_of}
+use Rattle.leaf_truth.specs.Multipliers.{pairs_of}
 use Rattle.work_stamp.specs.declared.entry.Entry.{Entry}
 use Rattle.work_stamp.specs.declared.entry.Entry.TheVariants.{Found, Split, Closed, Done}
 use Rattle.task_steps.specs.Columns.{widest, middle}
 use Rattle.task_steps.specs.Keeps.{number_of}
-use Rattle.task_steps.specs.Leaves.{record_of, weights_of}
 use Rattle.task_steps.specs.Points.{is_feasible_at}
 use Rattle.task_steps.specs.declared.keep.Keep.{Keep}
 use Rattle.task_steps.specs.declared.keep.Keep.TheVariants.{Low, High, Neither}
@@ -40,7 +41,7 @@ child_name slot ordinal = slot * 2 ^ 40 + 4 * ordinal
 abbrev pub closing_chunk : ℕ → ℕ → List Entry → Progress → Closing → TaskChunk
 closing_chunk node splits found p why = record {
   entries = found ++ Closed node ∷ [] ++ Done ∷ [];
-  records = record_of node p.steps why ∷ [];
+  records = record { node = node; leaf = leaf_of p.steps why } ∷ [];
   work = p.work;
   task = None;
   splits = splits;
@@ -89,12 +90,14 @@ splitting_chunk task worker found cutoff work col at keep bound =
 
 -- after the point was tried: the node is closed where its bound is no longer below the cutoff, else
 -- split in the widest column of the box after the passes
-abbrev pub after_point : Task → Worker → Progress → Ascent → ℤ → List Entry → TaskChunk
-after_point task worker p a cutoff found =
+abbrev pub after_point : ModelParts → Task → Worker → Progress → Ascent → ℤ → List Entry
+    → TaskChunk
+after_point m task worker p a cutoff found =
     let col = widest p.bounds in
     let at = middle p.bounds col in
     if int_le cutoff a.bound
-    then closing_chunk task.node worker.splits found p (Bound (weights_of a.mults))
+    then closing_chunk task.node worker.splits found p
+    (Bound (pairs_of (length m.rows) a.mults))
     else splitting_chunk task worker found cutoff p.work col at
     (kept_child task.nodes (int_at a.point col) at) a.bound
 
@@ -108,8 +111,9 @@ is_found m cutoff a =
 abbrev pub on_point : ModelParts → Task → Worker → Progress → Ascent → Bool → TaskChunk
 on_point m task worker p a found =
     if found
-    then after_point task worker p a (value_at m a.point) (Found (value_at m a.point) a.point ∷ [])
-    else after_point task worker p a task.cutoff []
+    then after_point m task worker p a (value_at m a.point)
+    (Found (value_at m a.point) a.point ∷ [])
+    else after_point m task worker p a task.cutoff []
 
 -- the ascent over a box
 abbrev pub ascent_of : ModelParts → Sides → Ascent

@@ -6,12 +6,12 @@ ghost use Rattle.task_steps.specs.declared.keep.Keep.TheVariants.{Neither};
 
 use crate::column::{end_at, middle, widest};
 use crate::keep::Keep;
-use crate::leaf::{record_of, weights_of};
 use crate::local::Task;
 use crate::naming::{child_name, next_ordinal};
 use crate::task_chunk::{Progress, SplitChoice, TaskChunk, Worker};
 use dual_ascent::Ascent;
-use ip_core::{Bounds, Closing, List, OutOfMemory};
+use ip_core::{Bounds, Closing, Leaf, List, Model, OutOfMemory, Record};
+use leaf_truth::pairs_of;
 use node_pool::BoundChange;
 use std::alloc::Global;
 use work_stamp::Entry;
@@ -20,6 +20,7 @@ use work_stamp::Entry;
 /// column of the box after the passes.
 pub fn after_point(
     alloc: Global,
+    model: &Model,
     task: &Task,
     worker: Worker,
     progress: Progress,
@@ -33,17 +34,17 @@ pub fn after_point(
     requires few { length ascent.now.mults < 2 ^ 32 }
     requires low { neg_ℤ (pos (2 ^ 62)) ≤ℤ ascent.now.bound }
     ensures { IfOk result (λ chunk.
-        chunk ≡ after_point_of task.now worker progress ascent.now cutoff found) }
+        chunk ≡ after_point_of model.now task.now worker progress ascent.now cutoff found) }
 {
     if i128::from(cutoff) <= ascent.bound {
-        let weights = weights_of(alloc, ascent.mults.as_slice())?;
+        let pairs = pairs_of(alloc, model.rows().len(), ascent.mults.as_slice())?;
         return closing_chunk(
             alloc,
             task.node,
             worker.splits,
             found,
             progress,
-            Closing::Bound(weights),
+            Closing::Bound(pairs),
         );
     }
     let col = widest(&progress.bounds);
@@ -95,7 +96,13 @@ pub fn closing_chunk(
     entries.push(Entry::Closed { node })?;
     entries.push(Entry::Done)?;
     let mut records = List::new(alloc);
-    records.push(record_of(node, progress.steps, why))?;
+    records.push(Record {
+        node,
+        leaf: Leaf {
+            steps: progress.steps,
+            closing: why,
+        },
+    })?;
     Ok(TaskChunk {
         entries,
         records,

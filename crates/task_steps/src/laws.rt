@@ -3,6 +3,7 @@ ghost use Rattle.stamp_machine.specs.Machine.{history};
 ghost use Rattle.task_steps.specs.Answers.{answer_of};
 ghost use Rattle.task_steps.specs.LimitCauses.{HasLimitCause};
 ghost use Rattle.task_steps.specs.Picks.{BestIsTaken};
+ghost use Rattle.task_steps.specs.Records.{RecordsHold};
 ghost use Rattle.task_steps.specs.Rules.{rules};
 ghost use Rattle.task_steps.specs.Truth.{IsHistory, IsTrueAnswer};
 
@@ -38,4 +39,14 @@ pub fn answers_are_true(search: &Search, limits: &Limits)
 pub fn limits_are_met(search: &Search, limits: &Limits)
     requires { AreLimits limits.now }
     ensures { HasLimitCause search.now.model search.now.settings limits.now }
+{}
+
+/// A law of the search, with nothing to run: what each record of the machine's history says is so.
+/// Its node was held and is closed by its slot, and the node's box, which the splits on its path make
+/// of the root box, never changed since; there its leaf holds at the last cutoff. Each node that is
+/// closed has a record. The last cutoff is the value of the best point, or with none one more than any
+/// value.
+pub fn records_hold(search: &Search, limits: &Limits)
+    requires { AreLimits limits.now }
+    ensures { RecordsHold search.now.model search.now.settings limits.now }
 {}

@@ -11,7 +11,6 @@ mod close_or_split;
 mod column;
 mod keep;
 mod laws;
-mod leaf;
 mod local;
 mod naming;
 mod node_chunk;
@@ -21,7 +20,9 @@ mod task_chunk;
 mod tasker;
 
 pub use answer::{Answer, Best, Status, answer_of};
-pub use laws::{answers_are_true, best_nodes_are_taken, histories_are_read, limits_are_met};
+pub use laws::{
+    answers_are_true, best_nodes_are_taken, histories_are_read, limits_are_met, records_hold,
+};
 pub use local::{Local, Task};
 pub use search::Search;
 

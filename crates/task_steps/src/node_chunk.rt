@@ -81,14 +81,14 @@ fn on_point(
 {
     let mut found = List::new(alloc);
     if !is_found(model, task.cutoff, ascent) {
-        return after_point(alloc, task, worker, progress, ascent, task.cutoff, found);
+        return after_point(alloc, model, task, worker, progress, ascent, task.cutoff, found);
     }
     let value = value(model, &ascent.point);
     found.push(Entry::Found {
         value,
         point: ascent.point.copy(alloc)?,
     })?;
-    after_point(alloc, task, worker, progress, ascent, value, found)
+    after_point(alloc, model, task, worker, progress, ascent, value, found)
 }
 
 /// Whether the ascent's point is found: the bound is below the cutoff, and the point is feasible

@@ -1,5 +1,5 @@
 -- What a chunk counts is 1, its passes and its ascent.
-use Rattle.std.proofs.Common.{◌≡◌, ◌∙◌, ◌+◌, ◌^◌, ℕ, ◌≤◌, Bool, true, false, if◌then◌else◌, List, [], ◌∷◌, ℤ, int_le, refl, ap, sym, arith, le_trans}
+use Rattle.std.proofs.Common.{◌≡◌, ◌∙◌, ◌+◌, ◌^◌, ℕ, ◌≤◌, Bool, true, false, if◌then◌else◌, List, [], ◌∷◌, length, ℤ, int_le, refl, ap, sym, arith, le_trans}
 use Rattle.ip_core.specs.Numbers.{int_at}
 use Rattle.ip_core.specs.Sides.{Sides}
 use Rattle.ip_core.specs.Truth.{value_at}
@@ -11,10 +11,10 @@ use Rattle.row_propagate.specs.declared.outcome.Outcome.TheVariants as ended
 use Rattle.row_propagate.specs.declared.outcome.PassRun.{PassRun}
 use Rattle.dual_ascent.specs.Ascents.{ascent_work}
 use Rattle.dual_ascent.specs.declared.ascent.Ascent.{Ascent}
+use Rattle.leaf_truth.specs.Multipliers.{pairs_of}
 use Rattle.work_stamp.specs.declared.entry.Entry.{Entry}
 use Rattle.work_stamp.specs.declared.entry.Entry.TheVariants.{Found}
 use Rattle.task_steps.specs.Columns.{middle, widest}
-use Rattle.task_steps.specs.Leaves.{weights_of}
 use Rattle.task_steps.specs.Tasks.{after_passes, after_point, ascent_of, closing_chunk, is_found, kept_child, node_chunk, on_point, progress_of, splitting_chunk}
 use Rattle.ip_core.specs.Models.{IsModel}
 use Rattle.task_steps.specs.Lemmas.Counts.{climb_little, passes_work}
@@ -28,21 +28,21 @@ choice_work : (b : Bool) (x y : TaskChunk) (n : ℕ) → x.work ≡ n → y.work
 choice_work true x y n first second = first
 choice_work false x y n first second = second
 
-after_point_work : (task : Task) (worker : Worker) (p : Progress) (a : Ascent) (cutoff : ℤ)
-    (found : List Entry) → (after_point task worker p a cutoff found).work ≡ p.work
-after_point_work task worker p a cutoff found =
+after_point_work : (m : ModelParts) (task : Task) (worker : Worker) (p : Progress) (a : Ascent)
+    (cutoff : ℤ) (found : List Entry) → (after_point m task worker p a cutoff found).work ≡ p.work
+after_point_work m task worker p a cutoff found =
     let col = widest p.bounds in
     let at = middle p.bounds col in
     choice_work (int_le cutoff a.bound)
-    (closing_chunk task.node worker.splits found p (Bound (weights_of a.mults)))
+    (closing_chunk task.node worker.splits found p (Bound (pairs_of (length m.rows) a.mults)))
     (splitting_chunk task worker found cutoff p.work col at
     (kept_child task.nodes (int_at a.point col) at) a.bound) p.work refl refl
 
 on_point_work : (m : ModelParts) (task : Task) (worker : Worker) (p : Progress) (a : Ascent)
     (found : Bool) → (on_point m task worker p a found).work ≡ p.work
-on_point_work m task worker p a true = after_point_work task worker p a (value_at m a.point)
+on_point_work m task worker p a true = after_point_work m task worker p a (value_at m a.point)
     (Found (value_at m a.point) a.point ∷ [])
-on_point_work m task worker p a false = after_point_work task worker p a task.cutoff []
+on_point_work m task worker p a false = after_point_work m task worker p a task.cutoff []
 
 open_work : (m : ModelParts) (task : Task) (worker : Worker) (p : Propagation) (o : Ended)
     → o ≡ ended.Open → ascent_work m [] p.sides ≤ (after_passes m task worker p o).work

@@ -1,128 +1,143 @@
--- Why a closed node holds no point that is wanted.
-use Rattle.std.proofs.Common.{◌≡◌, ◌≢◌, ◌∙◌, ℕ, zero, suc, ◌<◌, ◌≤◌, ◌⊎◌, inl, inr, Bool, true, false, if◌then◌else◌, List, [], length, ℤ, int_lt, ◌≤ℤ◌, ◌<ℤ◌, Option, Some, None, refl, sym, arith}
-use Rattle.std.proofs.lemmas.Bool.{cases_lt}
+-- What the passes leave of a box, and which leaves hold on it.
+use Rattle.std.proofs.Common.{◌≡◌, ℕ, zero, suc, ◌<◌, ◌⊎◌, inl, inr, Bool, true, false, if◌then◌else◌, is_none, List, [], length, ℤ, ◌≤ℤ◌, ◌<ℤ◌, int_lt, Option, Some, None, refl, sym, ap, subst, arith}
 use Rattle.std.proofs.lemmas.Int.{ints}
-use Rattle.std.proofs.lemmas.List.Elements.{All-append}
-use Rattle.ip_core.specs.Numbers.{int_at}
-use Rattle.ip_core.specs.Sides.{Sides, HasNoEmpty}
 use Rattle.ip_core.specs.Boxes.{IsWithin}
 use Rattle.ip_core.specs.Models.{IsModel}
+use Rattle.ip_core.specs.Numbers.{int_at}
 use Rattle.ip_core.specs.Rows.{AreMet, AreRows}
+use Rattle.ip_core.specs.Sides.{Sides, HasNoEmpty}
+use Rattle.ip_core.specs.declared.leaf.Closing.{Closing}
+use Rattle.ip_core.specs.declared.leaf.Closing.TheVariants.{Bound}
+use Rattle.ip_core.specs.declared.leaf.Leaf.{Leaf}
 use Rattle.ip_core.specs.declared.model.ModelParts.{ModelParts}
 use Rattle.ip_core.specs.declared.row.Row.{Row}
-use Rattle.ip_core.proofs.NarrowerBoxes.{within_itself}
 use Rattle.search_truth.specs.Boxes.{IsClosed}
+use Rattle.row_propagate.specs.declared.outcome.Outcome.{Outcome}
 use Rattle.row_propagate.specs.declared.outcome.Outcome.TheVariants.{Open}
+use Rattle.row_propagate.specs.Lawful.{IsAfter, IsCause}
 use Rattle.row_propagate.specs.Passes.{Propagation, after_passes, first_below, first_empty, first_or, open_run, propagation_of, propagation_from}
-use Rattle.row_propagate.specs.Points.{HasMetPoints, HasNoMetPoint}
-use Rattle.row_propagate.proofs.Causes.{none_where_closed, passes_caused}
-use Rattle.safe_bound.specs.Bounds.{all_rows, lagrangian_bound}
-use Rattle.safe_bound.proofs.Safety.{bound_is_safe}
-use Rattle.task_steps.specs.Lemmas.PassRuns.{passes_from}
+use Rattle.row_propagate.specs.Replay.{row_named}
+use Rattle.row_propagate.proofs.Causes.{passes_caused}
+use Rattle.row_propagate.proofs.Replaying.{replay_within}
+use Rattle.safe_bound.specs.Bounds.{lagrangian_bound}
+use Rattle.safe_bound.specs.Premises.{AreMultipliers}
+use Rattle.leaf_truth.specs.Laws.{AreValidCuts, closing_of, leaf_of}
+use Rattle.leaf_truth.specs.Leaves.{IsValidLeaf}
+use Rattle.leaf_truth.specs.Multipliers.{pairs_of}
+use Rattle.leaf_truth.proofs.Closes.{leaf_closes}
+use Rattle.leaf_truth.proofs.Given.{bound_gives_leaf, outcome_gives_leaf}
+use Rattle.leaf_truth.proofs.Solid.{solid_holds}
+use Rattle.task_steps.specs.Lemmas.LawfulPasses.{IsLawfulRun, passes_lawful}
 
-or_some : (o : Option ℕ) (b : Bool) (n j : ℕ) → first_or o (if b then Some n else None) ≡ Some j → (o ≡ Some j) ⊎ ((b ≡ true) × (n ≡ j))
+-- the first number that passes a test is one that passes
+
+or_some : (o : Option ℕ) (b : Bool) (n j : ℕ) → first_or o (if b then Some n else None) ≡ Some j
+    → (o ≡ Some j) ⊎ ((b ≡ true) × (n ≡ j))
 or_some (Some i) b n j same = inl same
 or_some None true n j same = inr (refl, cc)
 or_some None false n j same = absurd (cc)
 
-or_none : (o : Option ℕ) (b : Bool) (n : ℕ) → first_or o (if b then Some n else None) ≡ None → (o ≡ None) × (b ≡ false)
-or_none (Some i) b n same = absurd (cc)
-or_none None true n same = absurd (cc)
-or_none None false n same = (refl, refl)
+some_cases : (n : ℕ) (test : ℕ → Bool) (j : ℕ)
+    → (first_below n test ≡ Some j → (j < n) × (test j ≡ true))
+    → (first_below n test ≡ Some j) ⊎ ((test n ≡ true) × (n ≡ j))
+    → (j < suc n) × (test j ≡ true)
+some_cases n test j before (inl found) =
+    let parts = before found in (omega (arith, parts.0), parts.1)
+some_cases n test j before (inr here) =
+    let last = here.1 in (omega arith, rw (← last) here.0)
 
-some_cases : (n : ℕ) (test : ℕ → Bool) (j : ℕ) → (first_below n test ≡ Some j → (j < n) × (test j ≡ true)) → (first_below n test ≡ Some j) ⊎ ((test n ≡ true) × (n ≡ j)) → (j < suc n) × (test j ≡ true)
-some_cases n test j before (inl found) = let parts = before found in (omega (arith, parts.0), parts.1)
-some_cases n test j before (inr here) = let last = here.1 in (omega arith, rw (← last) here.0)
-
--- the first number that passes a test is one that passes
-first_below_some : (n : ℕ) (test : ℕ → Bool) (j : ℕ) → first_below n test ≡ Some j → (j < n) × (test j ≡ true)
+first_below_some : (n : ℕ) (test : ℕ → Bool) (j : ℕ) → first_below n test ≡ Some j
+    → (j < n) × (test j ≡ true)
 first_below_some zero test j found = absurd (cc)
-first_below_some (suc n) test j found = some_cases n test j (first_below_some n test j) (or_some (first_below n test) (test n) n j found)
-
-none_cases : (n : ℕ) (test : ℕ → Bool) (k : ℕ) → (k < n → test k ≡ false) → test n ≡ false → (k < n) ⊎ (n ≤ k) → k < suc n → test k ≡ false
-none_cases n test k before last (inl less) known = before less
-none_cases n test k before last (inr more) known = let same : k ≡ n = omega arith in rw same last
-
--- and where there is none, each fails
-first_below_fails : (n : ℕ) (test : ℕ → Bool) (k : ℕ) → first_below n test ≡ None → k < n → test k ≡ false
-first_below_fails zero test k none known = absurd (omega arith)
-first_below_fails (suc n) test k none known =
-    let parts = or_none (first_below n test) (test n) n none in
-    none_cases n test k (first_below_fails n test k parts.0) parts.1 (cases_lt k n) known
+first_below_some (suc n) test j found =
+    some_cases n test j (first_below_some n test j)
+    (or_some (first_below n test) (test n) n j found)
 
 crossed_test : (high low : ℤ) → int_lt high low ≡ true → high <ℤ low
 crossed_test high low test = grind (arith, ints)
 
-ordered_test : (high low : ℤ) → int_lt high low ≡ false → low ≤ℤ high
-ordered_test high low test = grind (arith, ints)
-
-no_first_empty : (s : Sides) → first_empty s ≡ None → HasNoEmpty s
-no_first_empty s none = record {
-  all = λ k h. record { ordered = ordered_test _ _ (first_below_fails (length s.lows) (λ j. int_lt (int_at s.highs j) (int_at s.lows j)) k none h) };
-}
-
-empty_meets_none : (rows : List Row) (s : Sides) (col : ℕ) → first_empty s ≡ Some col → HasNoMetPoint rows [] s
-empty_meets_none rows s col found =
-    let parts = first_below_some (length s.lows) (λ j. int_lt (int_at s.highs j) (int_at s.lows j)) col found in
-    let crossed = crossed_test (int_at s.highs col) (int_at s.lows col) parts.1 in
-    record {
-      none = λ x long inside met none.
-          let here : col < length x = omega (arith, long, parts.0) in
-          omega (arith, ints, inside.above col here, inside.below col here, crossed);
-    }
-
--- What the passes over a model's rows leave of a box: it lies in that box, has each of its points that meets the rows, and has no
--- empty column where nothing closed it; and what closed it shows that there is no such point.
+-- What the passes over a model's rows leave of a box: they came to their last box by lawful steps,
+-- and there the outcome has its cause.
 pub record IsPassed (m : ModelParts) (s : Sides) (p : Propagation) : Type 0 where
-  pub within : IsWithin s p.sides
-  pub keeps : HasMetPoints m.rows [] s p.sides
-  pub solid : p.run.outcome ≡ Open → HasNoEmpty p.sides
-  pub none : p.run.outcome ≢ Open → HasNoMetPoint m.rows [] s
+  pub after : IsAfter m.rows [] s p.sides p.steps
+  pub cause : IsCause m.rows [] p.sides p.run.outcome
 
 no_rows : (n : ℕ) (root : Sides) → AreRows n root []
 no_rows n root = record { each = λ k d h. absurd (omega arith) }
 
-passed_cases : (m : ModelParts) (s : Sides) (o : Option ℕ) → first_empty s ≡ o → IsModel m → length s.lows ≡ length m.cols → IsPassed m s (propagation_from m.rows [] s o)
-passed_cases m s (Some col) found valid columns = record {
-  within = within_itself s;
-  keeps = record { each = λ x long inside met none. inside };
-  solid = λ same. absurd (cc);
-  none = λ closed. empty_meets_none m.rows s col found;
-}
+passed_cases : (m : ModelParts) (s : Sides) (o : Option ℕ) → first_empty s ≡ o → IsModel m
+    → length s.lows ≡ length m.cols → IsPassed m s (propagation_from m.rows [] s o)
+passed_cases m s (Some col) found valid columns =
+    let test = λ (j : ℕ). int_lt (int_at s.highs j) (int_at s.lows j) in
+    let parts = first_below_some (length s.lows) test col found in
+    record {
+      after = record { replays = refl; lawful = tt };
+      cause = record {
+        known = parts.0;
+        empty =
+            record { crossed = crossed_test (int_at s.highs col) (int_at s.lows col) parts.1 };
+      };
+    }
 passed_cases m s None found valid columns =
     let n = length m.cols in
-    let run = (after_passes 10 m.rows [] (open_run s []) 0).run in
-    let from = passes_from m.rows s 10 0 (λ k d h. rw columns (valid.rows.each k d h).terms) (no_first_empty s found) in
-    let caused = passes_caused n m.root m.rows [] 10 (open_run s []) 0 valid.rows (no_rows n m.root) refl (record { columns = columns; cause = no_first_empty s found }) in
-    record {
-      within = from.within;
-      keeps = from.keeps;
-      solid = from.solid;
-      none = λ closed. none_where_closed n m.root m.rows [] s run valid.rows (no_rows n m.root) columns from.keeps caused closed;
-    }
+    let first = open_run s [] in
+    let solid : HasNoEmpty s = solid_holds s (ap (λ (o : Option ℕ). is_none o) found) in
+    let rows : AreRows (length s.lows) m.root m.rows =
+    subst (λ (k : ℕ). AreRows k m.root m.rows) (sym columns) valid.rows in
+    let lawful = passes_lawful m.rows [] s m.root 10 first 0 rows (no_rows (length s.lows) m.root)
+    refl (record {
+      after = record { replays = refl; lawful = tt };
+      columns = refl;
+      solid = λ same. solid;
+    }) in
+    let caused = passes_caused n m.root m.rows [] 10 first 0 valid.rows (no_rows n m.root) refl
+    (record { columns = columns; cause = solid }) in
+    record { after = lawful.after; cause = caused.cause }
 
-pub passes_passed : (m : ModelParts) (s : Sides) → IsModel m → length s.lows ≡ length m.cols → IsPassed m s (propagation_of m.rows [] s)
+pub passes_passed : (m : ModelParts) (s : Sides) → IsModel m → length s.lows ≡ length m.cols
+    → IsPassed m s (propagation_of m.rows [] s)
 passes_passed m s valid columns = passed_cases m s (first_empty s) refl valid columns
+
+-- the last box lies in the first one
+pub passed_within : (m : ModelParts) (s : Sides) (p : Propagation) → IsPassed m s p
+    → IsWithin s p.sides
+passed_within m s p passed =
+    subst (IsWithin s) (sym passed.after.replays) (replay_within (row_named m.rows []) s p.steps)
+
+-- and has no empty column where nothing closed it
+pub passed_solid : (m : ModelParts) (s : Sides) (p : Propagation) → IsPassed m s p
+    → p.run.outcome ≡ Open → HasNoEmpty p.sides
+passed_solid m s p passed goes = subst (IsCause m.rows [] p.sides) goes passed.cause
+
+-- what closed it makes a leaf with the steps, which holds at every value
+pub outcome_leaf : (m : ModelParts) (s : Sides) (v : ℤ) (why : Closing) → IsModel m
+    → length s.lows ≡ length m.cols
+    → closing_of (propagation_of m.rows [] s).run.outcome ≡ Some why
+    → IsValidLeaf m [] v s (leaf_of (propagation_of m.rows [] s).steps why)
+outcome_leaf m s v why valid columns closes =
+    let p = propagation_of m.rows [] s in
+    let passed = passes_passed m s valid columns in
+    outcome_gives_leaf m [] v s p.sides p.steps p.run.outcome why passed.after passed.cause closes
+
+-- and so do multipliers where nothing closed it, at each value up to their bound
+pub bound_leaf : (m : ModelParts) (s : Sides) (v : ℤ) (ys : List ℕ) → IsModel m
+    → length s.lows ≡ length m.cols → (propagation_of m.rows [] s).run.outcome ≡ Open
+    → AreMultipliers m [] ys → v ≤ℤ lagrangian_bound m [] (propagation_of m.rows [] s).sides ys
+    → IsValidLeaf m [] v s
+    (leaf_of (propagation_of m.rows [] s).steps (Bound (pairs_of (length m.rows) ys)))
+bound_leaf m s v ys valid columns goes mults high =
+    let p = propagation_of m.rows [] s in
+    let passed = passes_passed m s valid columns in
+    bound_gives_leaf m [] v s p.sides p.steps ys passed.after (passed_solid m s p passed goes) mults
+    high
 
 no_cuts_met : (x : List ℤ) → AreMet x []
 no_cuts_met x = record { each = λ k d h. absurd (omega arith) }
 
--- a box that the passes close is closed at any cutoff
-pub closed_by_passes : (m : ModelParts) (cutoff : ℤ) (s : Sides) → IsModel m → length s.lows ≡ length m.cols → (propagation_of m.rows [] s).run.outcome ≢ Open → IsClosed m cutoff s
-closed_by_passes m cutoff s valid columns closed = record {
-  none_below = λ y feasible inside.
-      absurd (((passes_passed m s valid columns).none closed).none y (feasible.one_each ∙ sym columns) inside feasible.rows_met (no_cuts_met y));
-}
+no_cuts : (m : ModelParts) → AreValidCuts m []
+no_cuts m = record { rows = no_rows (length m.cols) m.root; met = λ x feasible. no_cuts_met x }
 
-all_met : (m : ModelParts) (x : List ℤ) → AreMet x m.rows → AreMet x (all_rows m [])
-all_met m x met = record { each = All-append _ m.rows [] met.each (no_cuts_met x).each }
-
--- a bound over the box after the passes holds for the box before them, since no feasible point is lost
-pub closed_by_bound : (m : ModelParts) (cutoff : ℤ) (s : Sides) (ys : List ℕ) → IsModel m → length s.lows ≡ length m.cols → cutoff ≤ℤ lagrangian_bound m [] (propagation_of m.rows [] s).sides ys → IsClosed m cutoff s
-closed_by_bound m cutoff s ys valid columns bound = record {
-  none_below = λ y feasible inside.
-      let passed = passes_passed m s valid columns in
-      let left = passed.keeps.each y (feasible.one_each ∙ sym columns) inside feasible.rows_met (no_cuts_met y) in
-      let safe = bound_is_safe m [] (propagation_of m.rows [] s).sides ys y valid (no_rows (length m.cols) m.root) feasible.one_each left (all_met m y feasible.rows_met) in
-      omega (arith, ints, bound, safe);
-}
+-- a leaf that holds at a value closes its box there
+pub leaf_closed : (m : ModelParts) (v : ℤ) (s : Sides) (leaf : Leaf) → IsModel m
+    → length s.lows ≡ length m.cols → IsValidLeaf m [] v s leaf → IsClosed m v s
+leaf_closed m v s leaf valid columns holds = leaf_closes m [] v s leaf valid (no_cuts m) columns holds

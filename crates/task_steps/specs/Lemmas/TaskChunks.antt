@@ -10,6 +10,7 @@ use Rattle.ip_core.specs.Models.{IsModel}
 use Rattle.ip_core.specs.declared.model.ModelParts.{ModelParts}
 use Rattle.search_truth.specs.Boxes.{IsClosed, low_child, high_child}
 use Rattle.search_truth.proofs.Within.{within_low_child, within_high_child}
+use Rattle.leaf_truth.specs.Multipliers.{pairs_of}
 use Rattle.node_pool.specs.Follows.{IsSplitPoint, IsValued}
 use Rattle.work_stamp.specs.Taskers.{HaveWords}
 use Rattle.work_stamp.specs.Writable.{HasWords, IsSigned}
@@ -19,7 +20,6 @@ use Rattle.task_steps.specs.Claims.{Claim, Held, IsReady, IsSplitNow, high_held,
 use Rattle.dual_ascent.specs.declared.ascent.Ascent.{Ascent}
 use Rattle.task_steps.specs.Columns.{middle, widest}
 use Rattle.task_steps.specs.Fits.{FitsLocal, FitsTask, IsSmall, IsTask}
-use Rattle.task_steps.specs.Leaves.{weights_of}
 use Rattle.task_steps.specs.Keeps.{number_of}
 use Rattle.task_steps.specs.Tasks.{child_name, closing_chunk, end_entries, kept_child, next_ordinal, splitting_chunk, task_after}
 use Rattle.task_steps.specs.declared.keep.Keep.{Keep}
@@ -343,7 +343,8 @@ split_good m l task p a limit valid tried is =
 pub plain_good : (m : ModelParts) (l : Local) (task : Task) (p : Progress) (a : Ascent) (limit : ℤ)
     (closed : Bool) → int_le limit a.bound ≡ closed → IsModel m → IsTried m l task p a limit
     → IsGoodChunk m l task limit
-    (cond closed (closing_chunk task.node l.splits [] p (Bound (weights_of a.mults)))
+    (cond closed
+    (closing_chunk task.node l.splits [] p (Bound (pairs_of (length m.rows) a.mults)))
     (splitting_chunk task (worker_of l) [] limit p.work (widest p.bounds)
     (middle p.bounds (widest p.bounds))
     (kept_child task.nodes (int_at a.point (widest p.bounds)) (middle p.bounds (widest p.bounds)))
@@ -359,7 +360,8 @@ pub found_first : (m : ModelParts) (l : Local) (task : Task) (p : Progress) (a :
     → IsTried m l task p a value → IsValued m value point → HasWords (Found value point)
     → IsGoodChunk m l task task.cutoff
     (cond closed
-    (closing_chunk task.node l.splits (Found value point ∷ []) p (Bound (weights_of a.mults)))
+    (closing_chunk task.node l.splits (Found value point ∷ []) p
+    (Bound (pairs_of (length m.rows) a.mults)))
     (splitting_chunk task (worker_of l) (Found value point ∷ []) value p.work (widest p.bounds)
     (middle p.bounds (widest p.bounds))
     (kept_child task.nodes (int_at a.point (widest p.bounds)) (middle p.bounds (widest p.bounds)))

@@ -1,5 +1,5 @@
 -- Each chunk of a task is good.
-use Rattle.std.proofs.Common.{◌≡◌, ◌∙◌, ℕ, ◌<◌, ◌≤◌, ◌^◌, ◌⊎◌, inl, inr, Bool, true, false, ◌&&◌, List, [], length, ℤ, pos, ◌≤ℤ◌, ◌<ℤ◌, int_lt, int_le, unsigned_abs, refl, sym, arith}
+use Rattle.std.proofs.Common.{◌≡◌, ◌∙◌, ℕ, ◌<◌, ◌≤◌, ◌^◌, ◌⊎◌, inl, inr, Bool, true, false, ◌&&◌, List, [], length, ℤ, pos, ◌≤ℤ◌, ◌<ℤ◌, int_lt, int_le, unsigned_abs, Some, refl, sym, ap, arith}
 use Rattle.std.proofs.lemmas.Bool.{true≢false}
 use Rattle.std.proofs.lemmas.Int.{ints}
 use Rattle.std.proofs.lemmas.List.{length-map}
@@ -7,16 +7,21 @@ use Rattle.std.proofs.lemmas.List.FromFn.{length-range_with_len}
 use Rattle.ip_core.specs.Sides.{Sides, IsPaired}
 use Rattle.ip_core.specs.Models.{IsModel}
 use Rattle.ip_core.specs.Truth.{IsFeasible, value_at}
+use Rattle.ip_core.specs.declared.leaf.Closing.{Closing}
+use Rattle.ip_core.specs.declared.leaf.Closing.TheVariants.{Bound, Conflict, Empty}
 use Rattle.ip_core.specs.declared.model.ModelParts.{ModelParts}
-use Rattle.ip_core.specs.declared.row_ref.RowRef.{RowRef}
 use Rattle.ip_core.proofs.NarrowerBoxes.{within_both}
 use Rattle.ip_core.proofs.Widths.{costs_within_width, model_costs_narrow, narrow_fits}
+use Rattle.search_truth.specs.Boxes.{IsClosed}
 use Rattle.search_truth.proofs.Within.{within_columns}
 use Rattle.row_propagate.specs.Passes.{Propagation, propagation_of}
 use Rattle.row_propagate.specs.declared.outcome.Outcome.{Outcome as Ended}
 use Rattle.row_propagate.specs.declared.outcome.Outcome.TheVariants as ended
 use Rattle.ip_core.proofs.Reaching.{model_within_reach}
 use Rattle.dual_ascent.specs.declared.ascent.Ascent.{Ascent}
+use Rattle.dual_ascent.proofs.Multipliers.{ascent_has_multipliers}
+use Rattle.leaf_truth.specs.Laws.{closing_of, leaf_of}
+use Rattle.leaf_truth.specs.Multipliers.{pairs_of}
 use Rattle.work_stamp.specs.Writable.{HasWords}
 use Rattle.work_stamp.specs.declared.entry.Entry.TheVariants.{Found}
 use Rattle.task_steps.specs.Fits.{FitsLocal, IsTask}
@@ -31,7 +36,7 @@ use Rattle.task_steps.specs.Lemmas.Columns.{point_signed}
 use Rattle.task_steps.specs.Lemmas.Feasible.{and_true, both_true, feasible_from_test, test_from_feasible}
 use Rattle.task_steps.specs.Lemmas.NoColumns.{empty_feasible}
 use Rattle.task_steps.specs.Lemmas.TaskChunks.{IsGoodChunk, IsTried, closing_good, found_first, plain_good, worker_of}
-use Rattle.task_steps.specs.Lemmas.Reasons.{closed_by_bound, closed_by_passes, passes_passed}
+use Rattle.task_steps.specs.Lemmas.Reasons.{bound_leaf, leaf_closed, outcome_leaf, passed_solid, passed_within, passes_passed}
 
 value_small : (m : ModelParts) (x : List ℤ) → IsModel m → IsFeasible m x
     → unsigned_abs (value_at m x) ≤ 2 ^ 50
@@ -75,12 +80,6 @@ column_cases m s limit a settled below (inl none) =
     absurd (omega (arith, ints, settled none, below))
 column_cases m s limit a settled below (inr some) = some
 
-conflict_closed : (row : RowRef) → ended.Conflict row ≡ ended.Open → ⊥
-conflict_closed row same = cc
-
-empty_closed : (col : ℕ) → ended.Empty col ≡ ended.Open → ⊥
-empty_closed col same = cc
-
 module _ (m : ModelParts) (l : Local) (task : Task) (valid : IsModel m) (paired : IsPaired m.root)
     (fits : FitsLocal m l) (task_fits : IsTask m task) where
   abbrev passes : Propagation
@@ -110,22 +109,39 @@ module _ (m : ModelParts) (l : Local) (task : Task) (valid : IsModel m) (paired 
   empty_bound : length m.cols ≡ 0 → pos 0 ≤ℤ climb.bound
   empty_bound none = ascent_above m passes.sides (valid.bounds.costs ∙ none)
 
+  -- what closed the box in the passes makes a leaf that holds
+  outcome_closed : (why : Closing) → closing_of passes.run.outcome ≡ Some why
+      → IsClosed m task.cutoff task.bounds
+  outcome_closed why closes =
+      leaf_closed m task.cutoff task.bounds (leaf_of passes.steps why) valid columns
+      (outcome_leaf m task.bounds task.cutoff why valid columns closes)
+
+  -- and so do the multipliers, at each value up to their bound
+  bound_closed : (limit : ℤ) → passes.run.outcome ≡ ended.Open → limit ≤ℤ climb.bound
+      → IsClosed m limit task.bounds
+  bound_closed limit goes above =
+      leaf_closed m limit task.bounds
+      (leaf_of passes.steps (Bound (pairs_of (length m.rows) climb.mults))) valid columns
+      (bound_leaf m task.bounds limit climb.mults valid columns goes
+      (ascent_has_multipliers m [] passes.sides) above)
+
   tried : (limit : ℤ) → passes.run.outcome ≡ ended.Open → limit ≤ℤ pos (2 ^ 51)
       → (length m.cols ≡ 0 → limit ≤ℤ climb.bound) → IsTried m l task progress climb limit
   tried limit goes few settled =
       let passed = passes_passed m task.bounds valid columns in
-      let solid = passed.solid goes in
+      let within = passed_within m task.bounds passes passed in
+      let solid = passed_solid m task.bounds passes passed goes in
       record {
         fits = fits;
         task_fits = task_fits;
         small = passed_small m task.bounds passes.sides valid task_fits.within task_fits.paired
-            passed.within solid;
-        columns = passed.within.as_many_lows ∙ columns;
+            within solid;
+        columns = within.as_many_lows ∙ columns;
         few = few;
         low = ascent_low m passes.sides valid
             (model_within_reach m passes.sides valid
-            (within_both m.root task.bounds passes.sides task_fits.within passed.within) solid);
-        closed = λ above. closed_by_bound m limit task.bounds climb.mults valid columns above;
+            (within_both m.root task.bounds passes.sides task_fits.within within) solid);
+        closed = λ above. bound_closed limit goes above;
         some = λ below. column_cases m passes.sides limit climb settled below
             (some_or_none (length m.cols));
       }
@@ -175,11 +191,9 @@ module _ (m : ModelParts) (l : Local) (task : Task) (valid : IsModel m) (paired 
       → IsGoodChunk m l task task.cutoff (after_passes m task (worker_of l) passes o)
   outcome_cases ended.Open is = point_cases (is_found m task.cutoff climb) refl is
   outcome_cases (ended.Conflict row) is = closing_good m l task task.cutoff fits task_fits
-      (closed_by_passes m task.cutoff task.bounds valid columns
-      (λ same. conflict_closed row (sym is ∙ same)))
+      (outcome_closed (Conflict row) (ap closing_of is))
   outcome_cases (ended.Empty col) is = closing_good m l task task.cutoff fits task_fits
-      (closed_by_passes m task.cutoff task.bounds valid columns
-      (λ same. empty_closed col (sym is ∙ same)))
+      (outcome_closed (Empty col) (ap closing_of is))
 
   -- a chunk of a task
   pub chunk_good : IsGoodChunk m l task task.cutoff (node_chunk m (worker_of l) task)
