@@ -66,10 +66,10 @@ CloseNone entries = (place name : ℕ) → at entries place ≡ Some (Closed nam
 both_close_none : (xs ys : List Entry) → CloseNone xs → CloseNone ys → CloseNone (xs ++ ys)
 both_close_none xs ys first second place name there =
     by_part (at-append xs ys place (Closed name) there) where
-  by_part : (at xs place ≡ Some (Closed name))
-      ⊎ ((later : ℕ) × (at ys later ≡ Some (Closed name))) → ⊥
-  by_part (inl here) = first place name here
-  by_part (inr (later, here)) = second later name here
+      by_part : (at xs place ≡ Some (Closed name))
+          ⊎ ((later : ℕ) × (at ys later ≡ Some (Closed name))) → ⊥
+      by_part (inl here) = first place name here
+      by_part (inr (later, here)) = second later name here
 
 none_close_none : CloseNone []
 none_close_none place name there = none_is_no_some (Closed name) there
@@ -186,8 +186,10 @@ closing_records m task splits found p why none holds = record {
 
   closing : (place : ℕ) × (at (closing_entries found task.node) place ≡ Some (Closed task.node))
   closing =
-      let here = at-behind found (Closed task.node ∷ []) 0 (Closed task.node) refl in
-      (here.0, at-front (found ++ Closed task.node ∷ []) (Done ∷ []) here.0 (Closed task.node) here.1)
+      let here = at-behind found (Closed task.node ∷ []) 0 (Closed task.node) refl in (
+        here.0,
+        at-front (found ++ Closed task.node ∷ []) (Done ∷ []) here.0 (Closed task.node) here.1,
+      )
 
   of_task : IsOfTask m task (closing_entries found task.node) item
   of_task = record {
@@ -217,15 +219,15 @@ point_records m task worker p a cutoff found none holds =
     let col = widest p.bounds in
     let mid = middle p.bounds col in
     by_test (AreOfTask m task) (int_le cutoff a.bound) _ _
-    (λ t. closing_records m task worker.splits found p (Bound (pairs_of (length m.rows) a.mults)) none
-    (holds (le_from_test cutoff a.bound t)))
+    (λ t. closing_records m task worker.splits found p
+    (Bound (pairs_of (length m.rows) a.mults)) none (holds (le_from_test cutoff a.bound t)))
     (λ t. splitting_records m task worker found cutoff p.work col mid
     (kept_child task.nodes (int_at a.point col) mid) a.bound none)
 
 -- ---- one chunk of a task
 
-module _ (m : ModelParts) (worker : Worker) (task : Task) (valid : IsModel m) (fits : IsTask m task)
-    where
+module _ (m : ModelParts) (worker : Worker) (task : Task) (valid : IsModel m)
+    (fits : IsTask m task) where
   abbrev passes : Propagation
   passes = propagation_of m.rows [] task.bounds
 
@@ -253,7 +255,8 @@ module _ (m : ModelParts) (worker : Worker) (task : Task) (valid : IsModel m) (f
       (up_to z value climb.bound (below.each 0 value climb.point refl) high))
   found_records false goes =
       point_records m task worker (progress_of passes climb.work) climb task.cutoff []
-      none_close_none (λ high z low below. leaf_below goes z (up_to z task.cutoff climb.bound low high))
+      none_close_none
+      (λ high z low below. leaf_below goes z (up_to z task.cutoff climb.bound low high))
 
   closed_records : (why : Closing) → closing_of passes.run.outcome ≡ Some why
       → AreOfTask m task (closing_chunk task.node worker.splits [] (progress_of passes 0) why)

@@ -181,8 +181,8 @@ module _ (m : ModelParts) (settings : SearchSettings) (valid : IsModel m) (paire
       stood.there works in
       let after = later_than stood.front stood.later stood.whole in
       let part : IsPart (under key (chunk l task).entries) stood.later =
-      subst (λ (o : Option Task). IsPart (under key (chunk_of m l o).gives.entries) stood.later) works
-      joined.entry_part in
+      subst (λ (o : Option Task). IsPart (under key (chunk_of m l o).gives.entries) stood.later)
+      works joined.entry_part in
       let same : box_of m.root last_view.branches item.node ≡ box_of m.root v.branches item.node =
       subst (λ (n : ℕ). box_of m.root last_view.branches n ≡ box_of m.root v.branches n)
       (sym of_task.named) (after.boxes task.node holding.known) in
@@ -215,8 +215,8 @@ module _ (m : ModelParts) (settings : SearchSettings) (valid : IsModel m) (paire
       → IsTrueRecord m entries slot item
   true_record slot place item there =
       let source = records_told View Local (rules m settings) (FitsView m) (FitsLocal m)
-      (MayFollowIn m settings) (Agrees m settings) (search_law m settings valid paired) limits ranges
-      slot place item there in
+      (MayFollowIn m settings) (Agrees m settings) (search_law m settings valid paired) limits
+      ranges slot place item there in
       let task = some_task source.local.task source.chunk.busy in
       task_record slot item source.key source.local task.0 source.place source.own source.chunk
       task.1 source.there
@@ -230,8 +230,8 @@ module _ (m : ModelParts) (settings : SearchSettings) (valid : IsModel m) (paire
   closed_in_chunk key name l task place joined works there =
       let said = chunk_says (records key.slot) key l task joined works in
       let has : HasRecord (chunk l task).records name = said.closed place name
-      (subst (λ (o : Option Task). at (chunk_of m l o).gives.entries place ≡ Some (Closed name)) works
-      there) in
+      (subst (λ (o : Option Task). at (chunk_of m l o).gives.entries place ≡ Some (Closed name))
+      works there) in
       let stands = record_stands View Local (rules m settings) (FitsLocal m) (Agrees m settings)
       entries (records key.slot) key l joined has.place has.item
       (subst (λ (o : Option Task). at (chunk_of m l o).gives.records has.place ≡ Some has.item)
@@ -256,16 +256,15 @@ module _ (m : ModelParts) (settings : SearchSettings) (valid : IsModel m) (paire
       → at entries place ≡ Some (keyed_entry key (Closed name)) → HasRecord (records key.slot) name
   closed_node place name key there =
       by_origin key name (origins_told View Local (rules m settings) (FitsView m) (FitsLocal m)
-      (MayFollowIn m settings) (Agrees m settings) (search_law m settings valid paired) limits ranges
-      place (keyed_entry key (Closed name)) there)
+      (MayFollowIn m settings) (Agrees m settings) (search_law m settings valid paired) limits
+      ranges place (keyed_entry key (Closed name)) there)
 
   pub records_hold : RecordsHold m settings limits
   records_hold =
-      let sound = (law m settings valid paired limits ranges (last limits)).stands.agrees.meets.sound
-      in
+      let stands = (law m settings valid paired limits ranges (last limits)).stands in
       record {
         true_records = true_record;
         closed_nodes = closed_node;
         cutoff = sym (ap (λ (v : View). v.cutoff) (view_with m settings splits_alone entries))
-            ∙ sound.cutoff;
+            ∙ stands.agrees.meets.sound.cutoff;
       }

@@ -37,9 +37,9 @@ pub record IsClosedBy (entries : List KeyedEntry) (slot name : ℕ) : Type 0 whe
   pub own : key.slot ≡ slot
   pub there : at entries place ≡ Some (keyed_entry key (Closed name))
 
--- What a record of a slot says is so: its node was held, and on the node's box its leaf holds at the
--- last cutoff, over the last cuts. The slot has closed the node: a record whose closing was dropped
--- isn't among these.
+-- What a record of a slot says is so: its node was held, and on the node's box its leaf holds at
+-- the last cutoff, over the last cuts. The slot has closed the node: what a slot dropped leaves no
+-- record.
 pub record IsTrueRecord (m : ModelParts) (entries : List KeyedEntry) (slot : ℕ) (item : Record)
     : Type 0 where
   pub node : WasHeld m entries item.node

@@ -81,7 +81,16 @@ fn on_point(
 {
     let mut found = List::new(alloc);
     if !is_found(model, task.cutoff, ascent) {
-        return after_point(alloc, model, task, worker, progress, ascent, task.cutoff, found);
+        return after_point(
+            alloc,
+            model,
+            task,
+            worker,
+            progress,
+            ascent,
+            task.cutoff,
+            found,
+        );
     }
     let value = value(model, &ascent.point);
     found.push(Entry::Found {

@@ -4,7 +4,7 @@ ghost use Rattle.task_steps.specs.Truth.{IsTrueAnswer};
 
 use crate::{
     Answer, Search, Status, answer_of, answers_are_true, best_nodes_are_taken, histories_are_read,
-    limits_are_met,
+    limits_are_met, records_hold,
 };
 use ip_core::dense::{DenseModel, DenseRow};
 use ip_core::{List, OutOfMemory};
@@ -113,6 +113,7 @@ fn answer(alloc: Global, search: &Search, limits: &Limits) -> Result<(History, A
     histories_are_read(search, limits);
     answers_are_true(search, limits);
     limits_are_met(search, limits);
+    records_hold(search, limits);
     best_nodes_are_taken();
     let answer = answer_of(alloc, search.model(), &history)?;
     Ok((history, answer))

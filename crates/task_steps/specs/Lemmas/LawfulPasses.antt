@@ -61,9 +61,9 @@ module _ (rows cuts : List Row) (start : Sides) where
   bound_lawful row name col run (Some bound) is named known goes lawful =
       let solid = lawful.solid (open_is run.outcome goes) in
       let here : col < length run.sides.lows = omega (arith, known, lawful.columns) in
+      let step = step_replay rows cuts name row run.sides run.steps col bound named solid here is in
       record {
-        after = (step_replay rows cuts name row run.sides run.steps col bound named solid here is).from
-            start lawful.after;
+        after = step.from start lawful.after;
         columns = (narrower_box_within run.sides col bound).as_many_lows ∙ lawful.columns;
         solid = λ goes_on. narrower_box_solid run.sides col bound solid goes_on;
       }
@@ -77,8 +77,8 @@ module _ (rows cuts : List Row) (start : Sides) where
       go_on_lawful (after_column name row t.col run) (after_columns name row terms)
       (bound_lawful row name t.col run (narrower_bound row run.sides t.col) refl named
       (known 0 t (omega arith)).known goes lawful)
-      (λ r still h. columns_lawful row name terms r named (λ k d within. known (suc k) d (omega arith))
-      still h)
+      (λ r still h. columns_lawful row name terms r named
+      (λ k d within. known (suc k) d (omega arith)) still h)
 
   row_lawful : (row : Row) (name : RowRef) (run : Run) → IsNamed rows cuts name row
       → AreTerms (length start.lows) row.terms → is_open run.outcome ≡ true

@@ -140,4 +140,5 @@ no_cuts m = record { rows = no_rows (length m.cols) m.root; met = λ x feasible.
 -- a leaf that holds at a value closes its box there
 pub leaf_closed : (m : ModelParts) (v : ℤ) (s : Sides) (leaf : Leaf) → IsModel m
     → length s.lows ≡ length m.cols → IsValidLeaf m [] v s leaf → IsClosed m v s
-leaf_closed m v s leaf valid columns holds = leaf_closes m [] v s leaf valid (no_cuts m) columns holds
+leaf_closed m v s leaf valid columns holds =
+    leaf_closes m [] v s leaf valid (no_cuts m) columns holds
