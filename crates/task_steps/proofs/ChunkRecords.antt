@@ -1,6 +1,5 @@
 -- What the records of a chunk say.
 use Rattle.std.proofs.Common.{◌≡◌, ◌∙◌, ℕ, zero, suc, ◌+◌, ◌⊎◌, inl, inr, Bool, true, false, List, [], ◌∷◌, ◌++◌, length, ℤ, ◌≤ℤ◌, int_le, Some, refl, sym, ap, subst, arith}
-use Rattle.std.proofs.lemmas.Int.{ints}
 use Rattle.ip_core.specs.Models.{IsModel}
 use Rattle.ip_core.specs.Numbers.{int_at}
 use Rattle.ip_core.specs.Truth.{value_at}
@@ -35,6 +34,7 @@ use Rattle.task_steps.specs.declared.task_chunk.TaskChunk.{TaskChunk}
 use Rattle.task_steps.specs.declared.task_chunk.Worker.{Worker}
 use Rattle.task_steps.specs.Lemmas.Feasible.{le_from_test}
 use Rattle.task_steps.specs.Lemmas.Reasons.{bound_leaf, outcome_leaf}
+use Rattle.task_steps.proofs.LaterViews.{up_to}
 
 -- a value that is at most that of each point which some entries find
 pub record IsNotAbove (z : ℤ) (entries : List Entry) : Type 0 where
@@ -206,9 +206,6 @@ closing_records m task splits found p why none holds = record {
   each (suc place) other there = absurd (none_is_no_some other there)
 
 -- ---- a chunk after its ascent
-
-up_to : (a b c : ℤ) → a ≤ℤ b → b ≤ℤ c → a ≤ℤ c
-up_to a b c first second = omega (arith, ints)
 
 point_records : (m : ModelParts) (task : Task) (worker : Worker) (p : Progress) (a : Ascent)
     (cutoff : ℤ) (found : List Entry) → CloseNone found

@@ -1,6 +1,6 @@
 -- What stays and what falls as a history grows.
 use Rattle.std.proofs.Common.{◌≡◌, ◌∙◌, ℕ, zero, suc, ◌+◌, Bool, true, false, ◌||◌, List, [], ◌∷◌, ◌++◌, ℤ, ◌≤ℤ◌, Some, refl, sym, ap, subst, arith}
-use Rattle.std.specs.Int.{int_min}
+use Rattle.std.specs.Int.Signed.{≤ℤ_refl}
 use Rattle.std.proofs.lemmas.Bool.{false≢true}
 use Rattle.std.proofs.lemmas.Int.{ints, clamps}
 use Rattle.ip_core.specs.declared.model.ModelParts.{ModelParts}
@@ -34,11 +34,8 @@ pub view_append : (v : View) (xs ys : List KeyedEntry)
 view_append v [] ys = refl
 view_append v (x ∷ xs) ys = view_append (after_entry v x.entry) xs ys
 
-up_to : (a b c : ℤ) → a ≤ℤ b → b ≤ℤ c → a ≤ℤ c
+pub up_to : (a b c : ℤ) → a ≤ℤ b → b ≤ℤ c → a ≤ℤ c
 up_to a b c first second = omega (arith, ints)
-
-itself : (a : ℤ) → a ≤ℤ a
-itself a = omega (arith, ints)
 
 or_left : (a b : Bool) → a ≡ true → (a || b) ≡ true
 or_left true b h = refl
@@ -82,7 +79,7 @@ module _ (m : ModelParts) (settings : SearchSettings) where
       let v = view_of m settings front in
       record {
         boxes = λ name known. refl;
-        falls = itself v.cutoff;
+        falls = ≤ℤ_refl v.cutoff;
         below = λ place key value point there.
             absurd (none_is_no_some (keyed_entry key (Found value point)) there);
       }

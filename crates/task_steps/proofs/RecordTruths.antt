@@ -1,7 +1,6 @@
 -- What the records of the machine's history say is so.
 use Rattle.std.proofs.Common.{◌≡◌, ◌∙◌, ℕ, zero, suc, true, false, List, [], ◌∷◌, ◌++◌, get_or, ℤ, ◌≤ℤ◌, Option, Some, None, is_none, refl, sym, ap, subst, arith}
 use Rattle.std.proofs.lemmas.Bool.{true≢false}
-use Rattle.std.proofs.lemmas.Int.{ints}
 use Rattle.ip_core.specs.Models.{IsModel}
 use Rattle.ip_core.specs.Sides.{Sides, IsPaired}
 use Rattle.ip_core.specs.declared.leaf.Record.{Record}
@@ -44,11 +43,8 @@ use Rattle.task_steps.specs.Lemmas.Fitting.{held_known}
 use Rattle.task_steps.specs.Lemmas.Histories.{view_with, with_settings}
 use Rattle.task_steps.specs.Lemmas.TaskChunks.{worker_of}
 use Rattle.task_steps.proofs.ChunkRecords.{AreOfTask, IsNotAbove, IsOfTask, chunk_records}
-use Rattle.task_steps.proofs.LaterViews.{IsLater, later_view, no_cuts, view_append}
+use Rattle.task_steps.proofs.LaterViews.{IsLater, later_view, no_cuts, up_to, view_append}
 use Rattle.task_steps.proofs.Truths.{history_is_read, law}
-
-up_to : (a b c : ℤ) → a ≤ℤ b → b ≤ℤ c → a ≤ℤ c
-up_to a b c first second = omega (arith, ints)
 
 -- ---- what the history holds for a task
 
