@@ -1,5 +1,6 @@
 -- What stays and what falls as a history grows.
 use Rattle.std.proofs.Common.{◌≡◌, ◌∙◌, ℕ, zero, suc, ◌+◌, Bool, true, false, ◌||◌, List, [], ◌∷◌, ◌++◌, ℤ, ◌≤ℤ◌, Some, refl, sym, ap, subst, arith}
+use Rattle.std.specs.Int.{int_min}
 use Rattle.std.specs.Int.Signed.{≤ℤ_refl}
 use Rattle.std.proofs.lemmas.Bool.{false≢true}
 use Rattle.std.proofs.lemmas.Int.{ints, clamps}
@@ -41,9 +42,12 @@ or_left : (a b : Bool) → a ≡ true → (a || b) ≡ true
 or_left true b h = refl
 or_left false b h = absurd (false≢true h)
 
+least_below : (a b : ℤ) → int_min a b ≤ℤ b
+least_below a b = omega (arith, ints, clamps)
+
 found_below : (v : View) (value : ℤ) (point : List ℤ)
     → (after_entry v (Found value point)).cutoff ≤ℤ value
-found_below v value point = omega (arith, ints, clamps)
+found_below v value point = least_below v.cutoff value
 
 -- the first entry's own value
 first_below : (v : View) (e : KeyedEntry) (key : Key) (value : ℤ) (point : List ℤ)

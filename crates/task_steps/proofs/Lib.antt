@@ -7,3 +7,4 @@ pub mod LimitCauses
 pub mod ChunkRecords
 pub mod LaterViews
 pub mod RecordTruths
+pub mod WorkedRecords

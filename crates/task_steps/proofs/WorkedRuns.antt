@@ -12,7 +12,7 @@ use Rattle.ip_core.specs.declared.model.ModelParts.{ModelParts}
 use Rattle.task_steps.specs.Rules.{rules}
 use Rattle.task_steps.proofs.WorkedRows.{free, odd, record_of}
 
-abbrev by : ℕ → Entry → KeyedEntry
+abbrev pub by : ℕ → Entry → KeyedEntry
 by stamp e = keyed_entry (record { stamp = stamp; slot = 0 }) e
 
 -- the history after so many moves of one slot, with no cuts and no dives
