@@ -1,5 +1,5 @@
 -- What the records of a chunk say.
-use Rattle.std.proofs.Common.{◌≡◌, ◌∙◌, ℕ, zero, suc, ◌+◌, ◌⊎◌, inl, inr, Bool, true, false, List, [], ◌∷◌, ◌++◌, length, ℤ, ◌≤ℤ◌, int_le, Some, refl, sym, ap, subst, arith}
+use Rattle.std.proofs.Common.{◌≡◌, ℕ, zero, suc, ◌⊎◌, inl, inr, Bool, true, false, List, [], ◌∷◌, ◌++◌, length, ℤ, ◌≤ℤ◌, int_le, Some, refl, ap, subst}
 use Rattle.ip_core.specs.Models.{IsModel}
 use Rattle.ip_core.specs.Numbers.{int_at}
 use Rattle.ip_core.specs.Truth.{value_at}

@@ -1,5 +1,5 @@
 -- What the records of the machine's history say is so.
-use Rattle.std.proofs.Common.{◌≡◌, ◌∙◌, ℕ, zero, suc, true, false, List, [], ◌∷◌, ◌++◌, get_or, ℤ, ◌≤ℤ◌, Option, Some, None, is_none, refl, sym, ap, subst, arith}
+use Rattle.std.proofs.Common.{◌≡◌, ◌∙◌, ℕ, zero, suc, true, false, List, [], ◌∷◌, ◌++◌, get_or, ℤ, ◌≤ℤ◌, Option, Some, None, is_none, refl, sym, ap, subst}
 use Rattle.std.proofs.lemmas.Bool.{true≢false}
 use Rattle.ip_core.specs.Models.{IsModel}
 use Rattle.ip_core.specs.Sides.{Sides, IsPaired}
@@ -13,7 +13,6 @@ use Rattle.work_stamp.specs.declared.entry.Entry.{Entry}
 use Rattle.work_stamp.specs.declared.entry.Entry.TheVariants.{Start, Found, Closed, Halt}
 use Rattle.work_stamp.specs.declared.key.Key.{Key}
 use Rattle.work_stamp.specs.declared.stamped.KeyedEntry.{KeyedEntry}
-use Rattle.work_stamp.specs.declared.task.Begin.TheVariants.{Take}
 use Rattle.stamp_machine.specs.Limits.{AreLimits}
 use Rattle.stamp_machine.specs.Machine.{history, last}
 use Rattle.stamp_machine.specs.Records.{HasOrigin, IsJoinedChunk, IsPart, OfHalt, OfTake, OfChunk, records_of}
@@ -28,7 +27,7 @@ use Rattle.node_pool.specs.Laws.{AreKnown}
 use Rattle.node_pool.specs.Views.{View, fresh_view, is_known, view_after, view_of}
 use Rattle.node_pool.specs.declared.settings.SearchSettings.{SearchSettings}
 use Rattle.task_steps.specs.Agrees.{Agrees, MayFollowIn, Stands}
-use Rattle.task_steps.specs.Answers.{best_found, splits_alone}
+use Rattle.task_steps.specs.Answers.{splits_alone}
 use Rattle.task_steps.specs.Claims.{Claim, HasHeld, HasHold, IsAt, IsAtTask, IsOn}
 use Rattle.task_steps.specs.Fits.{FitsLocal, FitsTask, FitsView}
 use Rattle.task_steps.specs.Lawful.{search_law}

@@ -12,7 +12,7 @@ use Rattle.row_propagate.specs.declared.outcome.Outcome.TheVariants.{Open, Confl
 use Rattle.row_propagate.specs.Lawful.{IsAfter}
 use Rattle.row_propagate.specs.Passes.{Run, after_bound, after_column, after_columns, after_pass, after_passes, after_row, after_rows, counted_run, go_on, is_due, is_open, run_of}
 use Rattle.row_propagate.specs.Replay.{AreNamed, IsNamed}
-use Rattle.row_propagate.specs.Rounding.{narrower_bound, narrower_box}
+use Rattle.row_propagate.specs.Rounding.{narrower_bound}
 use Rattle.row_propagate.proofs.Going.{cut_naming, model_naming, open_is}
 use Rattle.row_propagate.proofs.Keeping.{either}
 use Rattle.row_propagate.proofs.Stepping.{narrower_box_solid, narrower_box_within, step_replay}

@@ -10,12 +10,10 @@ use Rattle.ip_core.specs.declared.leaf.Closing.{Closing}
 use Rattle.ip_core.specs.declared.leaf.Closing.TheVariants.{Bound}
 use Rattle.ip_core.specs.declared.leaf.Leaf.{Leaf}
 use Rattle.ip_core.specs.declared.model.ModelParts.{ModelParts}
-use Rattle.ip_core.specs.declared.row.Row.{Row}
 use Rattle.search_truth.specs.Boxes.{IsClosed}
-use Rattle.row_propagate.specs.declared.outcome.Outcome.{Outcome}
 use Rattle.row_propagate.specs.declared.outcome.Outcome.TheVariants.{Open}
 use Rattle.row_propagate.specs.Lawful.{IsAfter, IsCause}
-use Rattle.row_propagate.specs.Passes.{Propagation, after_passes, first_below, first_empty, first_or, open_run, propagation_of, propagation_from}
+use Rattle.row_propagate.specs.Passes.{Propagation, first_below, first_empty, first_or, open_run, propagation_of, propagation_from}
 use Rattle.row_propagate.specs.Replay.{row_named}
 use Rattle.row_propagate.proofs.Causes.{passes_caused}
 use Rattle.row_propagate.proofs.Replaying.{replay_within}
@@ -27,7 +25,7 @@ use Rattle.leaf_truth.specs.Multipliers.{pairs_of}
 use Rattle.leaf_truth.proofs.Closes.{leaf_closes}
 use Rattle.leaf_truth.proofs.Given.{bound_gives_leaf, outcome_gives_leaf}
 use Rattle.leaf_truth.proofs.Solid.{solid_holds}
-use Rattle.task_steps.specs.Lemmas.LawfulPasses.{IsLawfulRun, passes_lawful}
+use Rattle.task_steps.specs.Lemmas.LawfulPasses.{passes_lawful}
 
 -- the first number that passes a test is one that passes
 
