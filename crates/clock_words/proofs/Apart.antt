@@ -19,7 +19,8 @@ same_slot shape i k j l lk ll e = dite (dec_le i j)
 pub same_place : (shape : Shape) (i k l : ℕ) → area_place shape i k ≡ area_place shape i l → k ≡ l
 same_place shape i k l e = omega arith
 
-pub clock_within : (shape : Shape) (slot : ℕ) → slot < shape.slots → clock_place slot < word_count shape
+pub clock_within : (shape : Shape) (slot : ℕ) → slot < shape.slots
+    → clock_place slot < word_count shape
 clock_within shape slot lt = omega arith
 
 pub area_within : (shape : Shape) (slot k : ℕ) → slot < shape.slots → k < shape.area

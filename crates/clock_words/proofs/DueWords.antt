@@ -17,7 +17,8 @@ due_words_least list zero s le below = omega arith
 due_words_least [] (suc n) s le below = absurd (omega arith)
 due_words_least (w ∷ ws) (suc n) s le below =
     let first : w.stamp < s = below 0 (omega arith) in
-    let rest : n ≤ due ws s = due_words_least ws n s (omega arith) (λ k lt. below (suc k) (omega arith)) in
+    let rest : n ≤ due ws s = due_words_least ws n s (omega arith)
+    (λ k lt. below (suc k) (omega arith)) in
     let test : nat_lt w.stamp s ≡ true = lt-ltb w.stamp s first in
     rw test (omega arith)
 

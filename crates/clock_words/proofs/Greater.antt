@@ -12,7 +12,8 @@ pub greater_at : (xs ys : List ℕ) (i : ℕ) → length xs ≡ length ys
 greater_at [] ys i e = refl
 greater_at (x ∷ xs) [] i e = absurd (omega arith)
 greater_at (x ∷ xs) (y ∷ ys) zero e = ap (λ (n : ℕ). n ∷ greater_of xs ys) (omega arith)
-greater_at (x ∷ xs) (y ∷ ys) (suc i) e = ap (λ (l : List ℕ). max x y ∷ l) (greater_at xs ys i (omega arith))
+greater_at (x ∷ xs) (y ∷ ys) (suc i) e = ap (λ (l : List ℕ). max x y ∷ l)
+    (greater_at xs ys i (omega arith))
 
 -- where nothing is greater in the other row, the greater ones are the row
 pub greater_all : (xs ys : List ℕ) → length xs ≡ length ys
@@ -20,11 +21,14 @@ pub greater_all : (xs ys : List ℕ) → length xs ≡ length ys
 greater_all [] [] e below = refl
 greater_all [] (y ∷ ys) e below = absurd (omega arith)
 greater_all (x ∷ xs) [] e below = refl
-greater_all (x ∷ xs) (y ∷ ys) e below = let first : y ≤ x = below 0 (omega arith) in let head : max x y ≡ x = omega arith in
-    let tail : greater_of xs ys ≡ xs = greater_all xs ys (omega arith) (λ i lt. below (suc i) (omega arith)) in
+greater_all (x ∷ xs) (y ∷ ys) e below = let first : y ≤ x = below 0 (omega arith) in
+    let head : max x y ≡ x = omega arith in
+    let tail : greater_of xs ys ≡ xs = greater_all xs ys (omega arith)
+    (λ i lt. below (suc i) (omega arith)) in
     ap (λ (n : ℕ). n ∷ greater_of xs ys) head ∙ ap (λ (l : List ℕ). x ∷ l) tail
 
-pub greater_length : (xs ys : List ℕ) → length xs ≡ length ys → length (greater_of xs ys) ≡ length xs
+pub greater_length : (xs ys : List ℕ) → length xs ≡ length ys
+    → length (greater_of xs ys) ≡ length xs
 greater_length [] [] e = refl
 greater_length [] (y ∷ ys) e = absurd (omega arith)
 greater_length (x ∷ xs) [] e = refl
@@ -33,9 +37,11 @@ greater_length (x ∷ xs) (y ∷ ys) e = ap suc (greater_length xs ys (omega ari
 stamp_of_greater : (m n : ℕ) → stamp_of (max m n) ≡ max (stamp_of m) (stamp_of n)
 stamp_of_greater m n = dite (dec_le m n)
     (λ le. let a : max m n ≡ n = omega arith in let b = stamps_rise m n le in
-    let c : max (stamp_of m) (stamp_of n) ≡ stamp_of n = max_right (stamp_of m) (stamp_of n) b in ap stamp_of a ∙ sym c)
+    let c : max (stamp_of m) (stamp_of n) ≡ stamp_of n = max_right (stamp_of m) (stamp_of n) b in
+    ap stamp_of a ∙ sym c)
     (λ gt. let a : max m n ≡ m = omega arith in let b = stamps_rise n m (omega arith) in
-    let c : max (stamp_of m) (stamp_of n) ≡ stamp_of m = max_left (stamp_of m) (stamp_of n) b in ap stamp_of a ∙ sym c)
+    let c : max (stamp_of m) (stamp_of n) ≡ stamp_of m = max_left (stamp_of m) (stamp_of n) b in
+    ap stamp_of a ∙ sym c)
   where
     max_right : (a b : ℕ) → a ≤ b → max a b ≡ b
     max_right a b le = omega arith
@@ -44,7 +50,8 @@ stamp_of_greater m n = dite (dec_le m n)
     max_left a b le = omega arith
 
 -- the stamps of the greater clock words are the greater stamps
-pub stamps_of_greater : (xs ys : List ℕ) → map stamp_of (greater_of xs ys) ≡ greater_of (map stamp_of xs) (map stamp_of ys)
+pub stamps_of_greater : (xs ys : List ℕ) → map stamp_of (greater_of xs ys) ≡ greater_of
+    (map stamp_of xs) (map stamp_of ys)
 stamps_of_greater [] ys = refl
 stamps_of_greater (x ∷ xs) [] = refl
 stamps_of_greater (x ∷ xs) (y ∷ ys) =
@@ -52,7 +59,8 @@ stamps_of_greater (x ∷ xs) (y ∷ ys) =
     ∙ ap (λ (l : List ℕ). max (stamp_of x) (stamp_of y) ∷ l) (stamps_of_greater xs ys)
 
 -- what holds of both at a place holds of the greater
-pub greater_either : (P : ℕ → Type 0) (xs ys : List ℕ) (i : ℕ) → P (slice_index xs i) → P (slice_index ys i)
+pub greater_either : (P : ℕ → Type 0) (xs ys : List ℕ) (i : ℕ) → P (slice_index xs i)
+    → P (slice_index ys i)
     → P (slice_index (greater_of xs ys) i)
 greater_either P [] ys i a b = b
 greater_either P (x ∷ xs) [] i a b = a

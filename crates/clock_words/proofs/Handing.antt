@@ -40,18 +40,25 @@ module _ (story : Lists) (shape : Shape) where
   first_words = replicate (word_count shape) 0
 
   slot_at_first : (slot : ℕ) → IsSlot story shape first_words 0 slot
-  slot_at_first slot = let z : clock_in first_words slot ≡ 0 = all_zero (word_count shape) (8 * slot + 8) in record {
-    count = let P : ℕ → Type 0 = λ c. due_count c ≡ due (list_of story slot) (stamp_of c) in
-        subst P (sym z) (sym (none_due_at_first (list_of story slot)));
-    due_words = λ k lt. absurd (let c : due_count (clock_in first_words slot) ≡ 0 = ap due_count z in omega arith);
-    fresh = λ _. z;
-  }
+  slot_at_first slot = let z : clock_in first_words slot ≡ 0 =
+      all_zero (word_count shape) (8 * slot + 8) in record {
+        count = let P : ℕ → Type 0 = λ c. due_count c ≡ due (list_of story slot) (stamp_of c) in
+            subst P (sym z) (sym (none_due_at_first (list_of story slot)));
+        due_words = λ k lt. absurd (let c : due_count (clock_in first_words slot) ≡ 0 =
+            ap due_count z in omega arith);
+        fresh = λ _. z;
+      }
 
   maker_at_first : IsTrueView story shape first_words (λ _. 0) 0 0 0 (maker story shape)
   maker_at_first = record {
     seen = λ slot lt. let a = all_zero shape.slots slot in omega arith;
     stop = λ is. absurd (let e : false ≡ true = is in cc);
-    as_maker = λ _. record { told = record { lists = refl; sizes = refl }; alone = refl; count = refl };
+    as_maker = λ _. record {
+      told = record { lists = refl; sizes = refl };
+      alone = refl;
+      count =
+          refl;
+    };
     as_owner = λ is. absurd (let e : Maker ≡ Owner = is in cc);
   }
 
@@ -60,7 +67,8 @@ module _ (story : Lists) (shape : Shape) where
   length_zeros (suc n) = ap suc (length_zeros n)
 
   -- a new board keeps the rule
-  pub kept_at_first : (S : Type 0) → IsKept {S = S} story shape (opening first_words [] (maker story shape))
+  pub kept_at_first : (S : Type 0) → IsKept {S = S} story shape
+      (opening first_words [] (maker story shape))
   kept_at_first S = record {
     owner = λ _. 0;
     maker = 0;
@@ -76,7 +84,8 @@ module _ (story : Lists) (shape : Shape) where
 
 module _ {S : Type 0} (story : Lists) (shape : Shape) where
   -- the maker hands out the next slot
-  module _ (s : State S View) (k : IsKept story shape s) (seat : ℕ) (v : View) (role : v.role ≡ Maker) (told : IsTold story shape v)
+  module _ (s : State S View) (k : IsKept story shape s) (seat : ℕ) (v : View)
+      (role : v.role ≡ Maker) (told : IsTold story shape v)
       (some_left : v.handed < shape.slots) (at : get_elem? s.views seat ≡ some v) where
     as_maker : IsMaker story shape k.maker k.handed seat v
     as_maker = (k.seats seat v at).as_maker role
@@ -91,15 +100,19 @@ module _ {S : Type 0} (story : Lists) (shape : Shape) where
     owner_here = ap (λ (b : Bool). cond b number (k.owner k.handed)) (eq-eqb k.handed k.handed refl)
 
     owner_else : (j : ℕ) → j < k.handed → owner' j ≡ k.owner j
-    owner_else j lt = ap (λ (b : Bool). cond b number (k.owner j)) (ne_eqb j k.handed (λ e. omega arith))
+    owner_else j lt = ap (λ (b : Bool). cond b number (k.owner j))
+        (ne_eqb j k.handed (λ e. omega arith))
 
     others_handing : (j : ℕ) (u : View) → j ≢ seat → get_elem? s.views j ≡ some u
         → IsTrueView story shape s.words owner' k.maker (k.handed + 1) j u
-    others_handing j u ne there = view_stays story shape s.words s.words k.owner owner' k.maker k.handed (k.handed + 1) j u
-        (omega arith) (λ i lt. omega arith) (λ above. above) (λ _ m. absurd (ne (sym m.alone ∙ as_maker.alone)))
+    others_handing j u ne there = view_stays story shape s.words s.words k.owner owner' k.maker
+        k.handed (k.handed + 1) j u
+        (omega arith) (λ i lt. omega arith) (λ above. above)
+        (λ _ m. absurd (ne (sym m.alone ∙ as_maker.alone)))
         (λ is o. (owner_else u.slot o.slot, refl, λ l lt. refl)) (k.seats j u there)
 
-    maker_handing : IsTrueView story shape s.words owner' k.maker (k.handed + 1) seat (after_handing v)
+    maker_handing : IsTrueView story shape s.words owner' k.maker (k.handed + 1) seat
+        (after_handing v)
     maker_handing = let t = k.seats seat v at in record {
       seen = t.seen;
       stop = t.stop;
@@ -117,7 +130,8 @@ module _ {S : Type 0} (story : Lists) (shape : Shape) where
       stop = λ is. absurd (let e : false ≡ true = is in cc);
       as_maker = λ is. absurd (let e : Owner ≡ Maker = is in cc);
       as_owner = λ _. let same = as_maker.count in
-          let clock : clock_in s.words v.handed ≡ 0 = (k.slots v.handed some_left).fresh (omega arith) in record {
+          let clock : clock_in s.words v.handed ≡ 0 = (k.slots v.handed some_left).fresh
+          (omega arith) in record {
             told = record { lists = told.lists; sizes = told.sizes };
             slot = omega arith;
             alone = ap owner' same ∙ owner_here;
@@ -129,28 +143,45 @@ module _ {S : Type 0} (story : Lists) (shape : Shape) where
           };
     }
 
-    pub kept_by_handing : IsKept story shape (record { words = s.words; homes = s.homes; views = set s.views seat (after_handing v) ++ handed_view v ∷ [] })
-    kept_by_handing = let P : ℕ → View → Type 0 = λ j u. IsTrueView story shape s.words owner' k.maker (k.handed + 1) j u in record {
-      owner = owner';
-      maker = k.maker;
-      handed = k.handed + 1;
-      size = k.size;
-      most = let a = as_maker.count in omega arith;
-      slots = λ j lt. slot_stays story shape s.words s.words k.handed (k.handed + 1) j (omega arith) refl (λ l _. refl) (k.slots j lt);
-      seats = λ j u e. ⊎_elim
-          (λ t. after_change P s.views seat (after_handing v) maker_handing others_handing j u t)
-          (λ t. subst (λ i. P i u) (sym t.0) (subst (λ w. P number w) t.1 new_owner))
-          (at_end (set s.views seat (after_handing v)) (handed_view v) u j e);
-      called = λ above. let m = mark_stays s.views seat v (after_handing v) at (λ is. is) (k.called above) in
-          (m.0, m.1, at_longer (set s.views seat (after_handing v)) (handed_view v ∷ []) m.0 m.1 m.2, m.3);
-    }
+    pub kept_by_handing : IsKept story shape
+        (record {
+          words = s.words;
+          homes = s.homes;
+          views =
+              set s.views seat (after_handing v) ++ handed_view v ∷ [];
+        })
+    kept_by_handing = let P : ℕ → View
+        → Type 0 = λ j u. IsTrueView story shape s.words owner' k.maker (k.handed + 1) j u in
+        record {
+          owner = owner';
+          maker = k.maker;
+          handed = k.handed + 1;
+          size = k.size;
+          most = let a = as_maker.count in omega arith;
+          slots = λ j lt. slot_stays story shape s.words s.words k.handed (k.handed + 1) j
+              (omega arith) refl (λ l _. refl) (k.slots j lt);
+          seats = λ j u e. ⊎_elim
+              (λ t. after_change P s.views seat (after_handing v) maker_handing others_handing j u t)
+              (λ t. subst (λ i. P i u) (sym t.0) (subst (λ w. P number w) t.1 new_owner))
+              (at_end (set s.views seat (after_handing v)) (handed_view v) u j e);
+          called = λ above. let m = mark_stays s.views seat v (after_handing v) at (λ is. is)
+              (k.called above) in (
+                m.0,
+                m.1,
+                at_longer (set s.views seat (after_handing v))
+                    (handed_view v ∷ []) m.0 m.1 m.2,
+                m.3,
+              );
+        }
 
-  pub hands_out : (seat : ℕ) (v : View) → v.role ≡ Maker → IsTold story shape v → v.handed < shape.slots
+  pub hands_out : (seat : ℕ) (v : View) → v.role ≡ Maker → IsTold story shape v
+      → v.handed < shape.slots
       → Splits (IsKept {S = S} story shape) seat v (after_handing v) (handed_view v)
   hands_out seat v role told some_left s k at = kept_by_handing s k seat v role told some_left at
 
 -- of two numbers at a place the greater one is no more than what both are no more than
-greater_below : (xs ys : List ℕ) (j n : ℕ) → slice_index xs j ≤ n → slice_index ys j ≤ n → slice_index (greater_of xs ys) j ≤ n
+greater_below : (xs ys : List ℕ) (j n : ℕ) → slice_index xs j ≤ n → slice_index ys j ≤ n
+    → slice_index (greater_of xs ys) j ≤ n
 greater_below [] ys j n a b = b
 greater_below (x ∷ xs) [] j n a b = a
 greater_below (x ∷ xs) (y ∷ ys) zero n a b = omega arith
@@ -168,8 +199,10 @@ or_right : (a b : Bool) → b ≡ true → (a || b) ≡ true
 or_right true b e = refl
 or_right false b e = e
 
-module _ {S : Type 0} (story : Lists) (shape : Shape) (s : State S View) (k : IsKept story shape s) (seat : ℕ) (v : View)
-    (own : IsOwning story shape v) (at : get_elem? s.views seat ≡ some v) (other : ℕ) (w : View) (apart : other ≢ seat)
+module _ {S : Type 0} (story : Lists) (shape : Shape) (s : State S View) (k : IsKept story shape s)
+    (seat : ℕ) (v : View)
+    (own : IsOwning story shape v) (at : get_elem? s.views seat ≡ some v) (other : ℕ) (w : View)
+    (apart : other ≢ seat)
     (at_other : get_elem? s.views other ≡ some w) where
   abbrev joined : View
   joined = after_join v w
@@ -180,11 +213,13 @@ module _ {S : Type 0} (story : Lists) (shape : Shape) (s : State S View) (k : Is
   kept_between : IsKept story shape between
   kept_between = let t = k.seats seat v at in let u = k.seats other w at_other in
       kept_by_load story shape s seat v joined k at (or_left v.stop w.stop)
-      (view_learns story shape s.words k.owner k.maker k.handed seat v joined.seen v.looks v.fetched joined.stop own.role
+      (view_learns story shape s.words k.owner k.maker k.handed seat v joined.seen v.looks v.fetched
+      joined.stop own.role
       (λ j lt. greater_below v.seen w.seen j (clock_in s.words j) (t.seen j lt) (u.seen j lt))
       (λ is. ⊎_elim t.stop u.stop (either_true v.stop w.stop is)) t)
 
-  spent_view : IsTrueView story shape s.words kept_between.owner kept_between.maker kept_between.handed other spent
+  spent_view : IsTrueView story shape s.words kept_between.owner kept_between.maker
+      kept_between.handed other spent
   spent_view = record {
     seen = λ j lt. omega arith;
     stop = λ is. absurd (let e : false ≡ true = is in cc);
@@ -194,16 +229,25 @@ module _ {S : Type 0} (story : Lists) (shape : Shape) (s : State S View) (k : Is
 
   mark_after_join : HasMark between.views → HasMark (set between.views other spent)
   mark_after_join mark = let j = mark.0 in let u = mark.1 in dite (ℕ_discrete j other)
-      (λ e. let here : get_elem? s.views other ≡ some u = sym (set_else s.views seat other joined apart) ∙ subst (λ i. get_elem? between.views i ≡ some u) e mark.2 in
+      (λ e. let here : get_elem? s.views other ≡ some u =
+      sym (set_else s.views seat other joined apart)
+      ∙ subst (λ i. get_elem? between.views i ≡ some u) e mark.2 in
       let same : w ≡ u = some-injective w u (sym at_other ∙ here) in (
         seat,
         joined,
-        set_else between.views other seat spent (λ i. apart (sym i)) ∙ set_here s.views seat joined (is_there s.views seat v at),
+        set_else between.views other seat spent (λ i. apart (sym i))
+            ∙ set_here s.views seat joined (is_there s.views seat v at),
         or_right v.stop w.stop (ap (λ (x : View). x.stop) same ∙ mark.3),
       ))
       (λ ne. (j, u, set_else between.views other j spent ne ∙ mark.2, mark.3))
 
-  pub kept_by_join : IsKept story shape (record { words = s.words; homes = s.homes; views = set (set s.views seat joined) other spent })
+  pub kept_by_join : IsKept story shape
+      (record {
+        words = s.words;
+        homes = s.homes;
+        views =
+            set (set s.views seat joined) other spent;
+      })
   kept_by_join = let b = kept_between in record {
     owner = b.owner;
     maker = b.maker;
@@ -211,12 +255,15 @@ module _ {S : Type 0} (story : Lists) (shape : Shape) (s : State S View) (k : Is
     size = b.size;
     most = b.most;
     slots = b.slots;
-    seats = after_change (λ j u. IsTrueView story shape s.words b.owner b.maker b.handed j u) between.views other spent spent_view
+    seats = after_change (λ j u. IsTrueView story shape s.words b.owner b.maker b.handed j u)
+        between.views other spent spent_view
         (λ j u _ there. b.seats j u there);
     called = λ above. mark_after_join (b.called above);
   }
 
-pub joins : {S : Type 0} (story : Lists) (shape : Shape) (seat : ℕ) (v : View) (other : ℕ) (w : View) → IsOwning story shape v
+pub joins : {S : Type 0} (story : Lists) (shape : Shape) (seat : ℕ) (v : View) (other : ℕ)
+    (w : View) → IsOwning story shape v
     → Joins (IsKept {S = S} story shape) seat v other w (after_join v w) spent
 joins story shape seat v other w own s k at apart there =
-    kept_by_join story shape s k seat v own at other w apart (sym (set_else s.views seat other (after_join v w) apart) ∙ there)
+    kept_by_join story shape s k seat v own at other w apart
+    (sym (set_else s.views seat other (after_join v w) apart) ∙ there)

@@ -33,30 +33,43 @@ after_change P views i w here others j u e =
 pub mark_stays : (views : List View) (i : ℕ) (v w : View) → get_elem? views i ≡ some v
     → (v.stop ≡ true → w.stop ≡ true) → HasMark views → HasMark (set views i w)
 mark_stays views i v w at keeps mark = let j = mark.0 in let u = mark.1 in dite (ℕ_discrete j i)
-    (λ e. let same : v ≡ u = some-injective v u (sym at ∙ subst (λ k. get_elem? views k ≡ some u) e mark.2) in
-    (i, w, set_here views i w (is_there views i v at), keeps (ap (λ (x : View). x.stop) same ∙ mark.3)))
+    (λ e. let same : v ≡ u = some-injective v u (sym at
+    ∙ subst (λ k. get_elem? views k ≡ some u) e mark.2) in (
+      i,
+      w,
+      set_here views i w (is_there views i v at),
+      keeps
+          (ap (λ (x : View). x.stop) same ∙ mark.3),
+    ))
     (λ ne. (j, u, set_else views i j w ne ∙ mark.2, mark.3))
 
 module _ (story : Lists) (shape : Shape) (words words' : List ℕ) where
   -- a slot whose clock word and due words are as before
-  pub slot_stays : (handed handed' slot : ℕ) → handed ≤ handed' → clock_in words' slot ≡ clock_in words slot
-      → ((k : ℕ) → k < due_count (clock_in words slot) → area_in shape words' slot k ≡ area_in shape words slot k)
+  pub slot_stays : (handed handed' slot : ℕ) → handed ≤ handed'
+      → clock_in words' slot ≡ clock_in words slot
+      → ((k : ℕ) → k < due_count (clock_in words slot) → area_in shape words' slot k
+      ≡ area_in shape words slot k)
       → IsSlot story shape words handed slot → IsSlot story shape words' handed' slot
   slot_stays handed handed' slot more clock area ok = record {
     count = rw clock ok.count;
-    due_words = λ k lt. let lt' : k < due_count (clock_in words slot) = rw clock at lt in area k lt' ∙ ok.due_words k lt';
+    due_words = λ k lt. let lt' : k < due_count (clock_in words slot) = rw clock at lt in
+        area k lt' ∙ ok.due_words k lt';
     fresh = λ le. clock ∙ ok.fresh (omega arith);
   }
 
   -- a seat whose own clock word and own words are as before, where no clock falls
-  pub view_stays : (owner owner' : ℕ → ℕ) (maker handed handed' seat : ℕ) (v : View) → handed ≤ handed'
+  pub view_stays : (owner owner' : ℕ → ℕ) (maker handed handed' seat : ℕ) (v : View)
+      → handed ≤ handed'
       → ((slot : ℕ) → slot < shape.slots → clock_in words slot ≤ clock_in words' slot)
       → (0 < stop_in words → 0 < stop_in words')
-      → (v.role ≡ Maker → IsMaker story shape maker handed seat v → IsMaker story shape maker handed' seat v)
-      → (v.role ≡ Owner → IsOwner story shape words owner handed seat v → (owner' v.slot ≡ owner v.slot)
+      → (v.role ≡ Maker → IsMaker story shape maker handed seat v
+      → IsMaker story shape maker handed' seat v)
+      → (v.role ≡ Owner → IsOwner story shape words owner handed seat v
+      → (owner' v.slot ≡ owner v.slot)
       × (clock_in words' v.slot ≡ clock_in words v.slot)
       × ((k : ℕ) → k < v.written → area_in shape words' v.slot k ≡ area_in shape words v.slot k))
-      → IsTrueView story shape words owner maker handed seat v → IsTrueView story shape words' owner' maker handed' seat v
+      → IsTrueView story shape words owner maker handed seat v
+      → IsTrueView story shape words' owner' maker handed' seat v
   view_stays owner owner' maker handed handed' seat v more clocks stop makes own ok = record {
     seen = λ slot lt. let a = ok.seen slot lt in let b = clocks slot lt in omega arith;
     stop = λ is. stop (ok.stop is);
@@ -73,7 +86,8 @@ module _ (story : Lists) (shape : Shape) (words words' : List ℕ) where
     };
   }
 
-module _ (story : Lists) (shape : Shape) (words : List ℕ) (owner : ℕ → ℕ) (maker handed seat : ℕ) (v : View) where
+module _ (story : Lists) (shape : Shape) (words : List ℕ) (owner : ℕ → ℕ) (maker handed seat : ℕ)
+    (v : View) where
   -- an owner that has seen, looked or fetched, or has another stop mark
   pub view_learns : (seen looks fetched : List ℕ) (stop : Bool) → v.role ≡ Owner
       → ((slot : ℕ) → slot < shape.slots → slice_index seen slot ≤ clock_in words slot)
@@ -110,7 +124,8 @@ module _ {S : Type 0} (story : Lists) (shape : Shape) (s : State S View) where
     size = k.size;
     most = k.most;
     slots = k.slots;
-    seats = after_change (λ j u. IsTrueView story shape s.words k.owner k.maker k.handed j u) s.views i w new
+    seats = after_change (λ j u. IsTrueView story shape s.words k.owner k.maker k.handed j u)
+        s.views i w new
         (λ j u ne. k.seats j u);
     called = λ above. mark_stays s.views i v w at keeps (k.called above);
   }

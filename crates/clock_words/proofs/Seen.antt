@@ -10,11 +10,15 @@ use Rattle.clock_words.specs.Stories.{Lists, due, list_of}
 use Rattle.clock_words.proofs.DueWords.{none_due_at_first}
 
 -- a row after the greater number was taken at a place is below nowhere before it
-pub below_more : (xs ys : List ℕ) (i : ℕ) → i < length xs → ((k : ℕ) → k < i → slice_index ys k ≤ slice_index xs k)
-    → (k : ℕ) → k < i + 1 → slice_index ys k ≤ slice_index (set xs i (max (slice_index xs i) (slice_index ys i))) k
-below_more xs ys i there below k lt = let n : ℕ = max (slice_index xs i) (slice_index ys i) in dite (ℕ_discrete k i)
+pub below_more : (xs ys : List ℕ) (i : ℕ) → i < length xs
+    → ((k : ℕ) → k < i → slice_index ys k ≤ slice_index xs k)
+    → (k : ℕ) → k < i + 1 → slice_index ys k ≤ slice_index
+    (set xs i (max (slice_index xs i) (slice_index ys i))) k
+below_more xs ys i there below k lt = let n : ℕ = max (slice_index xs i) (slice_index ys i) in
+    dite (ℕ_discrete k i)
     (λ e. let P : ℕ → Type 0 = λ j. slice_index ys j ≤ slice_index (set xs i n) j in
-    let a : slice_index (set xs i n) i ≡ n = get_or-set_same xs i n 0 there in subst P (sym e) (omega arith))
+    let a : slice_index (set xs i n) i ≡ n = get_or-set_same xs i n 0 there in
+    subst P (sym e) (omega arith))
     (λ ne. let a : slice_index (set xs i n) k ≡ slice_index xs k = get_or-set_other xs i k n 0 ne in
     let b = below k (omega arith) in omega arith)
 
@@ -24,18 +28,24 @@ zeros_at (suc count) zero = refl
 zeros_at (suc count) (suc slot) = zeros_at count slot
 
 pub zeros_count : (story : Lists) (count slot : ℕ)
-    → due_count (slice_index (replicate count 0) slot) ≡ due (list_of story slot) (stamp_of (slice_index (replicate count 0) slot))
-zeros_count story count slot = let P : ℕ → Type 0 = λ c. due_count c ≡ due (list_of story slot) (stamp_of c) in
+    → due_count (slice_index (replicate count 0) slot) ≡ due (list_of story slot)
+    (stamp_of (slice_index (replicate count 0) slot))
+zeros_count story count slot = let P : ℕ → Type 0 = λ c. due_count c ≡ due (list_of story slot)
+    (stamp_of c) in
     subst P (sym (zeros_at count slot)) (sym (none_due_at_first (list_of story slot)))
 
 pub counts_after_look : (story : Lists) (words : List ℕ) (slot word : ℕ)
-    → ((j : ℕ) → due_count (slice_index words j) ≡ due (list_of story j) (stamp_of (slice_index words j)))
+    → ((j : ℕ) → due_count (slice_index words j) ≡ due (list_of story j)
+    (stamp_of (slice_index words j)))
     → due_count word ≡ due (list_of story slot) (stamp_of word)
-    → (j : ℕ) → due_count (slice_index (set words slot word) j) ≡ due (list_of story j) (stamp_of (slice_index (set words slot word) j))
+    → (j : ℕ) → due_count (slice_index (set words slot word) j) ≡ due (list_of story j)
+    (stamp_of (slice_index (set words slot word) j))
 counts_after_look story words slot word counts found j =
-    let P : ℕ → ℕ → Type 0 = λ i c. due_count c ≡ due (list_of story i) (stamp_of c) in dite (ℕ_discrete j slot)
+    let P : ℕ → ℕ → Type 0 = λ i c. due_count c ≡ due (list_of story i) (stamp_of c) in
+    dite (ℕ_discrete j slot)
     (λ e. dite (dec_lt slot (length words))
     (λ here. subst (λ (i : ℕ). P i (slice_index (set words slot word) i)) (sym e)
     (subst (λ (c : ℕ). P slot c) (sym (get_or-set_same words slot word 0 here)) found))
-    (λ past. subst (λ (l : List ℕ). P j (slice_index l j)) (sym (set_past words slot word (omega arith))) (counts j)))
+    (λ past. subst (λ (l : List ℕ). P j (slice_index l j))
+    (sym (set_past words slot word (omega arith))) (counts j)))
     (λ ne. subst (λ (c : ℕ). P j c) (sym (get_or-set_other words slot j word 0 ne)) (counts j))

@@ -15,47 +15,61 @@ use Rattle.clock_words.specs.declared.view.View.{View}
 
 -- a slot's area lies below 2 ^ 28
 pub area_fits : (slot area : ℕ) → slot ≤ 64 → area ≤ 4194304 → slot * area ≤ 268435456
-area_fits slot area few small = let a : slot * area ≤ 64 * area = mul-le-mul_right area few in omega arith
+area_fits slot area few small = let a : slot * area ≤ 64 * area = mul-le-mul_right area few in
+    omega arith
 
 -- the stamp seen of a slot
-pub stamp_seen : (words : List ℕ) (slot : ℕ) → slice_index (map stamp_of words) slot ≡ stamp_of (slice_index words slot)
+pub stamp_seen : (words : List ℕ) (slot : ℕ) → slice_index (map stamp_of words) slot ≡ stamp_of
+    (slice_index words slot)
 stamp_seen words slot = get_or-map stamp_of words slot 0
 
-pub stamps_seen_set : (words : List ℕ) (slot word : ℕ) → map stamp_of (set words slot word) ≡ set (map stamp_of words) slot (stamp_of word)
+pub stamps_seen_set : (words : List ℕ) (slot word : ℕ) → map stamp_of (set words slot word) ≡ set
+    (map stamp_of words) slot (stamp_of word)
 stamps_seen_set [] slot word = refl
 stamps_seen_set (x ∷ xs) zero word = refl
-stamps_seen_set (x ∷ xs) (suc slot) word = ap (λ (l : List ℕ). stamp_of x ∷ l) (stamps_seen_set xs slot word)
+stamps_seen_set (x ∷ xs) (suc slot) word = ap (λ (l : List ℕ). stamp_of x ∷ l)
+    (stamps_seen_set xs slot word)
 
 pub stamps_of_zeros : (count : ℕ) → map stamp_of (replicate count 0) ≡ replicate count 0
 stamps_of_zeros zero = refl
 stamps_of_zeros (suc count) = ap (λ (l : List ℕ). 0 ∷ l) (stamps_of_zeros count)
 
-module _ (shape : Shape) (story : Lists) (table : TableId) (key_shape : Shape) (key_story : Lists) (board : BoardView)
-    (is : IsBoard shape story table key_shape key_story) (b : board ≡ record { table = table; shape = shape; story = story }) where
+module _ (shape : Shape) (story : Lists) (table : TableId) (key_shape : Shape) (key_story : Lists)
+    (board : BoardView)
+    (is : IsBoard shape story table key_shape key_story)
+    (b : board ≡ record { table = table; shape = shape; story = story }) where
   -- a slot of the board is one of the table
   pub slot_known : (slot : ℕ) → slot < board.shape.slots → slot < shape.slots
-  slot_known slot lt = let a : board.shape.slots ≡ shape.slots = ap (λ (z : BoardView). z.shape.slots) b in omega arith
+  slot_known slot lt = let a : board.shape.slots ≡ shape.slots =
+      ap (λ (z : BoardView). z.shape.slots) b in omega arith
 
   pub slot_told : (slot : ℕ) → slot < board.shape.slots → slot < key_shape.slots
-  slot_told slot lt = let a : key_shape.slots ≡ shape.slots = ap (λ (z : Shape). z.slots) is.told_shape in
+  slot_told slot lt = let a : key_shape.slots ≡ shape.slots =
+      ap (λ (z : Shape). z.slots) is.told_shape in
       let c = slot_known slot lt in omega arith
 
   -- what is within the areas of the board is within those that the table was told
   pub within_told : AreWithin key_shape.area key_story
   within_told = let P : Shape → Lists → Type 0 = λ z l. AreWithin z.area l in
-      subst (λ (z : Shape). P z key_story) (sym is.told_shape) (subst (λ (l : Lists). P shape l) (sym is.told_story) is.within)
+      subst (λ (z : Shape). P z key_story) (sym is.told_shape)
+      (subst (λ (l : Lists). P shape l) (sym is.told_story) is.within)
 
   pub within_of : AreWithin shape.area key_story
-  within_of = let P : Lists → Type 0 = λ l. AreWithin shape.area l in subst P (sym is.told_story) is.within
+  within_of = let P : Lists → Type 0 = λ l. AreWithin shape.area l in
+      subst P (sym is.told_story) is.within
 
   pub list_told : (slot : ℕ) → list_of key_story slot ≡ list_of board.story slot
-  list_told slot = ap (λ (l : Lists). list_of l slot) (is.told_story ∙ sym (ap (λ (z : BoardView). z.story) b))
+  list_told slot = ap (λ (l : Lists). list_of l slot) (is.told_story
+      ∙ sym (ap (λ (z : BoardView). z.story) b))
 
-module _ {S : Type 0} (shape : Shape) (story : Lists) (table : TableId) (key_shape : Shape) (key_story : Lists) (place : Seat S View)
+module _ {S : Type 0} (shape : Shape) (story : Lists) (table : TableId) (key_shape : Shape)
+    (key_story : Lists) (place : Seat S View)
     (board : BoardView) (s : SeatView) (is : IsBoard shape story table key_shape key_story)
-    (b : board ≡ record { table = table; shape = shape; story = story }) (v : s ≡ seat_view place.table_id place.me.0)
+    (b : board ≡ record { table = table; shape = shape; story = story })
+    (v : s ≡ seat_view place.table_id place.me.0)
     (seat : IsSeat board s) where
-  same_board : (seat_view place.table_id place.me.0).board ≡ record { table = table; shape = shape; story = story }
+  same_board : (seat_view place.table_id place.me.0).board
+      ≡ record { table = table; shape = shape; story = story }
   same_board = ap (λ (z : SeatView). z.board) (sym v) ∙ (seat.same ∙ b)
 
   pub shape_of_view : place.me.0.shape ≡ shape
@@ -70,10 +84,15 @@ module _ {S : Type 0} (shape : Shape) (story : Lists) (table : TableId) (key_sha
   pub at_table : place.me.0.role ≡ Owner → IsAtTable key_story key_shape table place
   at_table role = record {
     table_is = table_of_place;
-    size = let P : Shape → Type 0 = λ z. table.words ≡ word_count z in subst P (sym is.told_shape) is.size;
+    size = let P : Shape → Type 0 = λ z. table.words ≡ word_count z in
+        subst P (sym is.told_shape) is.size;
     owning = record {
       role = role;
-      told = record { lists = story_of_view ∙ sym is.told_story; sizes = shape_of_view ∙ sym is.told_shape };
+      told = record {
+        lists = story_of_view ∙ sym is.told_story;
+        sizes = shape_of_view
+            ∙ sym is.told_shape;
+      };
     };
   }
 

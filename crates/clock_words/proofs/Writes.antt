@@ -1,4 +1,5 @@
--- The steps that change a word: a store of an own word, a raise of the own clock word, and a call of the stop.
+-- The steps that change a word: a store of an own word, a raise of the own clock word, and a call
+-- of the stop.
 use Rattle.std.proofs.Common.{ℕ, zero, suc, ◌+◌, ◌*◌, ◌<◌, ◌≤◌, ◌≡◌, ◌≢◌, ◌⊎◌, Bool, true, false, max, List, [], ◌∷◌, length, set, get_or, slice_index, inl, inr, ⊎_elim, refl, sym, ap, ◌∙◌, subst, arith}
 use Rattle.std.proofs.lemmas.List.{get_or-set_same, get_or-set_other}
 use Rattle.std.proofs.Math.ListN.{length-set}
@@ -23,22 +24,27 @@ use Rattle.clock_words.proofs.DueWords.{due_words_least, due_words_most}
 use Rattle.clock_words.proofs.Kept.{after_change, is_there, mark_stays, slot_stays, view_learns, view_stays}
 use Rattle.clock_words.proofs.Stamps.{stamps_rise}
 
-module _ {S : Type 0} (story : Lists) (shape : Shape) (within : AreWithin shape.area story) (s : State S View)
-    (k : IsKept story shape s) (seat : ℕ) (v : View) (own : IsOwning story shape v) (at : get_elem? s.views seat ≡ some v) where
+module _ {S : Type 0} (story : Lists) (shape : Shape) (within : AreWithin shape.area story)
+    (s : State S View)
+    (k : IsKept story shape s) (seat : ℕ) (v : View) (own : IsOwning story shape v)
+    (at : get_elem? s.views seat ≡ some v) where
   mine : IsOwner story shape s.words k.owner k.handed seat v
   mine = (k.seats seat v at).as_owner own.role
 
   in_slots : v.slot < shape.slots
   in_slots = let a = mine.slot in let b = k.most in omega arith
 
-  other_slot : (j : ℕ) (u : View) → j ≢ seat → IsOwner story shape s.words k.owner k.handed j u → u.slot ≢ v.slot
+  other_slot : (j : ℕ) (u : View) → j ≢ seat → IsOwner story shape s.words k.owner k.handed j u
+      → u.slot ≢ v.slot
   other_slot j u ne o e = ne (sym o.alone ∙ (ap k.owner e ∙ mine.alone))
 
-  slot_of_other : (j : ℕ) (u : View) → IsOwner story shape s.words k.owner k.handed j u → u.slot < shape.slots
+  slot_of_other : (j : ℕ) (u : View) → IsOwner story shape s.words k.owner k.handed j u
+      → u.slot < shape.slots
   slot_of_other j u o = let a = o.slot in let b = k.most in omega arith
 
   -- the next own word is stored
-  module _ (x : ℕ) (short : v.written < length (list_of story v.slot)) (word : x ≡ word_at (list_of story v.slot) v.written)
+  module _ (x : ℕ) (short : v.written < length (list_of story v.slot))
+      (word : x ≡ word_at (list_of story v.slot) v.written)
       (stamp : stamp_at (list_of story v.slot) v.written ≤ stamp_of v.own) where
     abbrev place : ℕ
     place = area_place shape v.slot v.written
@@ -56,31 +62,40 @@ module _ {S : Type 0} (story : Lists) (shape : Shape) (within : AreWithin shape.
     stop_same : stop_in words' ≡ stop_in s.words
     stop_same = get_or-set_other s.words place 0 x 0 (λ e. omega arith)
 
-    area_same : (j l : ℕ) → l < shape.area → (j ≡ v.slot → l ≢ v.written) → area_in shape words' j l ≡ area_in shape s.words j l
+    area_same : (j l : ℕ) → l < shape.area → (j ≡ v.slot → l ≢ v.written)
+        → area_in shape words' j l ≡ area_in shape s.words j l
     area_same j l lt apart = get_or-set_other s.words place (area_place shape j l) x 0
         (λ e. let a : j ≡ v.slot = same_slot shape j l v.slot v.written lt short_area e in
-        apart a (same_place shape v.slot l v.written (ap (λ (i : ℕ). area_place shape i l) (sym a) ∙ e)))
+        apart a (same_place shape v.slot l v.written (ap (λ (i : ℕ). area_place shape i l) (sym a)
+        ∙ e)))
 
     area_here : area_in shape words' v.slot v.written ≡ x
     area_here = get_or-set_same s.words place x 0
-        (let a = area_within shape v.slot v.written in_slots short_area in let b = k.size in omega arith)
+        (let a = area_within shape v.slot v.written in_slots short_area in let b = k.size in
+        omega arith)
 
-    put_word : (l : ℕ) → l < v.written + 1 → area_in shape words' v.slot l ≡ word_at (list_of story v.slot) l
-    put_word l lt = let P : ℕ → Type 0 = λ i. area_in shape words' v.slot i ≡ word_at (list_of story v.slot) i in
+    put_word : (l : ℕ) → l < v.written + 1 → area_in shape words' v.slot l ≡ word_at
+        (list_of story v.slot) l
+    put_word l lt = let P : ℕ → Type 0 = λ i. area_in shape words' v.slot i ≡ word_at
+        (list_of story v.slot) i in
         let b = short_area in dite (ℕ_discrete l v.written)
         (λ e. subst P (sym e) (area_here ∙ word))
         (λ ne. area_same v.slot l (omega arith) (λ _. ne) ∙ mine.put_words l (omega arith))
 
     put_stamp : (l : ℕ) → l < v.written + 1 → stamp_at (list_of story v.slot) l ≤ stamp_of v.own
     put_stamp l lt = let P : ℕ → Type 0 = λ i. stamp_at (list_of story v.slot) i ≤ stamp_of v.own in
-        dite (ℕ_discrete l v.written) (λ e. subst P (sym e) stamp) (λ ne. mine.put_stamps l (omega arith))
+        dite (ℕ_discrete l v.written) (λ e. subst P (sym e) stamp)
+        (λ ne. mine.put_stamps l (omega arith))
 
     slot_after_put : (j : ℕ) → j < shape.slots → IsSlot story shape words' k.handed j
-    slot_after_put j lt = let c : ℕ = clock_in s.words j in let count : due_count c ≡ due (list_of story j) (stamp_of c) = (k.slots j lt).count in
+    slot_after_put j lt = let c : ℕ = clock_in s.words j in
+        let count : due_count c ≡ due (list_of story j) (stamp_of c) = (k.slots j lt).count in
         let most = due_words_most (list_of story j) (stamp_of c) in let area = within.each j in
         slot_stays story shape s.words words' k.handed k.handed j (omega arith) (clock_same j lt)
         (λ l less. area_same j l (omega arith)
-        (λ e is. let a : due_count c ≡ due_count v.own = ap due_count (ap (clock_in s.words) e ∙ sym mine.own) in let b = mine.least in omega arith))
+        (λ e is. let a : due_count c ≡ due_count v.own =
+        ap due_count (ap (clock_in s.words) e ∙ sym mine.own) in let b = mine.least in
+        omega arith))
         (k.slots j lt)
 
     view_after_put : IsTrueView story shape words' k.owner k.maker k.handed seat (after_put 1 v)
@@ -102,16 +117,20 @@ module _ {S : Type 0} (story : Lists) (shape : Shape) (within : AreWithin shape.
 
     others_after_put : (j : ℕ) (u : View) → j ≢ seat → get_elem? s.views j ≡ some u
         → IsTrueView story shape words' k.owner k.maker k.handed j u
-    others_after_put j u ne there = view_stays story shape s.words words' k.owner k.owner k.maker k.handed k.handed j u
-        (omega arith) (λ i lt. let a = clock_same i lt in omega arith) (λ above. let b = stop_same in omega arith) (λ _ m. m)
+    others_after_put j u ne there =
+        view_stays story shape s.words words' k.owner k.owner k.maker k.handed k.handed j u
+        (omega arith) (λ i lt. let a = clock_same i lt in omega arith)
+        (λ above. let b = stop_same in omega arith) (λ _ m. m)
         (λ is o. (
           refl,
           clock_same u.slot (slot_of_other j u o),
-          λ l lt. area_same u.slot l (let a = o.most in let b = within.each u.slot in omega arith) (λ e. absurd (other_slot j u ne o e)),
+          λ l lt. area_same u.slot l (let a = o.most in let b = within.each u.slot in omega arith)
+              (λ e. absurd (other_slot j u ne o e)),
         ))
         (k.seats j u there)
 
-    pub kept_by_put : IsKept story shape (record { words = words'; homes = s.homes; views = set s.views seat (after_put 1 v) })
+    pub kept_by_put : IsKept story shape
+        (record { words = words'; homes = s.homes; views = set s.views seat (after_put 1 v) })
     kept_by_put = record {
       owner = k.owner;
       maker = k.maker;
@@ -119,13 +138,16 @@ module _ {S : Type 0} (story : Lists) (shape : Shape) (within : AreWithin shape.
       size = length-set s.words place x ∙ k.size;
       most = k.most;
       slots = slot_after_put;
-      seats = after_change (λ j u. IsTrueView story shape words' k.owner k.maker k.handed j u) s.views seat (after_put 1 v)
+      seats = after_change (λ j u. IsTrueView story shape words' k.owner k.maker k.handed j u)
+          s.views seat (after_put 1 v)
           view_after_put others_after_put;
-      called = λ above. mark_stays s.views seat v (after_put 1 v) at (λ is. is) (k.called (let b = stop_same in omega arith));
+      called = λ above. mark_stays s.views seat v (after_put 1 v) at (λ is. is)
+          (k.called (let b = stop_same in omega arith));
     }
 
   -- the own clock word is raised to one that counts what is due
-  module _ (n : ℕ) (rises : v.own ≤ n) (count : due_count n ≡ due (list_of story v.slot) (stamp_of n))
+  module _ (n : ℕ) (rises : v.own ≤ n) (count : due_count n ≡ due (list_of story v.slot)
+      (stamp_of n))
       (enough : due_count n ≤ v.written) (stamp : stamp_of v.own ≤ stamp_of n) where
     abbrev clock' : ℕ
     clock' = max (get_or s.words (clock_place v.slot) 0) n
@@ -135,13 +157,16 @@ module _ {S : Type 0} (story : Lists) (shape : Shape) (within : AreWithin shape.
 
     clock_here : clock_in raised v.slot ≡ n
     clock_here = let a = mine.own in let b : clock' ≡ n = omega arith in
-        get_or-set_same s.words (clock_place v.slot) clock' 0 (let c = clock_within shape v.slot in_slots in let d = k.size in omega arith) ∙ b
+        get_or-set_same s.words (clock_place v.slot) clock' 0
+        (let c = clock_within shape v.slot in_slots in let d = k.size in omega arith) ∙ b
 
     clock_other : (j : ℕ) → j ≢ v.slot → clock_in raised j ≡ clock_in s.words j
-    clock_other j ne = get_or-set_other s.words (clock_place v.slot) (clock_place j) clock' 0 (λ e. ne (omega arith))
+    clock_other j ne = get_or-set_other s.words (clock_place v.slot) (clock_place j) clock' 0
+        (λ e. ne (omega arith))
 
     clock_rises : (j : ℕ) → clock_in s.words j ≤ clock_in raised j
-    clock_rises j = let P : ℕ → Type 0 = λ i. clock_in s.words i ≤ clock_in raised i in dite (ℕ_discrete j v.slot)
+    clock_rises j = let P : ℕ → Type 0 = λ i. clock_in s.words i ≤ clock_in raised i in
+        dite (ℕ_discrete j v.slot)
         (λ e. subst P (sym e) (let a = mine.own in let b = clock_here in omega arith))
         (λ ne. let a = clock_other j ne in omega arith)
 
@@ -155,15 +180,18 @@ module _ {S : Type 0} (story : Lists) (shape : Shape) (within : AreWithin shape.
     own_slot : IsSlot story shape raised k.handed v.slot
     own_slot = record {
       count = rw clock_here count;
-      due_words = λ l lt. let c : due_count (clock_in raised v.slot) ≡ due_count n = ap due_count clock_here in
+      due_words = λ l lt. let c : due_count (clock_in raised v.slot) ≡ due_count n =
+          ap due_count clock_here in
           area_stays v.slot l ∙ mine.put_words l (omega arith);
       fresh = λ le. absurd (let a = mine.slot in omega arith);
     }
 
     slot_after_raise : (j : ℕ) → j < shape.slots → IsSlot story shape raised k.handed j
-    slot_after_raise j lt = let P : ℕ → Type 0 = λ i. IsSlot story shape raised k.handed i in dite (ℕ_discrete j v.slot)
+    slot_after_raise j lt = let P : ℕ → Type 0 = λ i. IsSlot story shape raised k.handed i in
+        dite (ℕ_discrete j v.slot)
         (λ e. subst P (sym e) own_slot)
-        (λ ne. slot_stays story shape s.words raised k.handed k.handed j (omega arith) (clock_other j ne) (λ l _. area_stays j l) (k.slots j lt))
+        (λ ne. slot_stays story shape s.words raised k.handed k.handed j (omega arith)
+        (clock_other j ne) (λ l _. area_stays j l) (k.slots j lt))
 
     view_after_raise : IsTrueView story shape raised k.owner k.maker k.handed seat (after_raise n v)
     view_after_raise = let t = k.seats seat v at in record {
@@ -184,12 +212,15 @@ module _ {S : Type 0} (story : Lists) (shape : Shape) (within : AreWithin shape.
 
     others_after_raise : (j : ℕ) (u : View) → j ≢ seat → get_elem? s.views j ≡ some u
         → IsTrueView story shape raised k.owner k.maker k.handed j u
-    others_after_raise j u ne there = view_stays story shape s.words raised k.owner k.owner k.maker k.handed k.handed j u
-        (omega arith) (λ i lt. clock_rises i) (λ above. let b = stop_stays in omega arith) (λ _ m. m)
+    others_after_raise j u ne there =
+        view_stays story shape s.words raised k.owner k.owner k.maker k.handed k.handed j u
+        (omega arith) (λ i lt. clock_rises i) (λ above. let b = stop_stays in omega arith)
+        (λ _ m. m)
         (λ is o. (refl, clock_other u.slot (other_slot j u ne o), λ l lt. area_stays u.slot l))
         (k.seats j u there)
 
-    pub kept_by_raise : IsKept story shape (record { words = raised; homes = s.homes; views = set s.views seat (after_raise n v) })
+    pub kept_by_raise : IsKept story shape
+        (record { words = raised; homes = s.homes; views = set s.views seat (after_raise n v) })
     kept_by_raise = record {
       owner = k.owner;
       maker = k.maker;
@@ -197,9 +228,11 @@ module _ {S : Type 0} (story : Lists) (shape : Shape) (within : AreWithin shape.
       size = length-set s.words (clock_place v.slot) clock' ∙ k.size;
       most = k.most;
       slots = slot_after_raise;
-      seats = after_change (λ j u. IsTrueView story shape raised k.owner k.maker k.handed j u) s.views seat (after_raise n v)
+      seats = after_change (λ j u. IsTrueView story shape raised k.owner k.maker k.handed j u)
+          s.views seat (after_raise n v)
           view_after_raise others_after_raise;
-      called = λ above. mark_stays s.views seat v (after_raise n v) at (λ is. is) (k.called (let b = stop_stays in omega arith));
+      called = λ above. mark_stays s.views seat v (after_raise n v) at (λ is. is)
+          (k.called (let b = stop_stays in omega arith));
     }
 
   -- the two kinds of raise
@@ -211,14 +244,19 @@ module _ {S : Type 0} (story : Lists) (shape : Shape) (within : AreWithin shape.
       })
   kept_by_any_raise n (same e) =
       let P : ℕ → Type 0 = λ c. due_count c ≡ due (list_of story v.slot) (stamp_of c) in
-      let count : due_count v.own ≡ due (list_of story v.slot) (stamp_of v.own) = subst P (sym mine.own) (k.slots v.slot in_slots).count in
-      let Q : ℕ → Type 0 = λ c. due_count c ≤ v.written in let R : ℕ → Type 0 = λ c. stamp_of v.own ≤ stamp_of c in
-      kept_by_raise n (omega arith) (subst P (sym e) count) (subst Q (sym e) mine.least) (subst R (sym e) (omega arith))
+      let count : due_count v.own ≡ due (list_of story v.slot) (stamp_of v.own) =
+      subst P (sym mine.own) (k.slots v.slot in_slots).count in
+      let Q : ℕ → Type 0 = λ c. due_count c ≤ v.written in let R : ℕ
+      → Type 0 = λ c. stamp_of v.own ≤ stamp_of c in
+      kept_by_raise n (omega arith) (subst P (sym e) count) (subst Q (sym e) mine.least)
+      (subst R (sym e) (omega arith))
   kept_by_any_raise n (later stamp count enough) =
       let list : List StampedWord = list_of story v.slot in
-      let least : v.written ≤ due list (stamp_of n) = due_words_least list v.written (stamp_of n) mine.most
+      let least : v.written ≤ due list (stamp_of n) = due_words_least list v.written
+      (stamp_of n) mine.most
       (λ l lt. let a = mine.put_stamps l lt in omega arith) in
-      let above : v.own ≤ n = dite (dec_le v.own n) (λ le. le) (λ gt. let a = stamps_rise n v.own (omega arith) in absurd (omega arith)) in
+      let above : v.own ≤ n = dite (dec_le v.own n) (λ le. le)
+      (λ gt. let a = stamps_rise n v.own (omega arith) in absurd (omega arith)) in
       kept_by_raise n above (omega arith) (omega arith) (omega arith)
 
   -- the stop is called
@@ -229,7 +267,8 @@ module _ {S : Type 0} (story : Lists) (shape : Shape) (within : AreWithin shape.
   called_words = set s.words 0 called_stop
 
   stop_here : 0 < stop_in called_words
-  stop_here = let e : stop_in called_words ≡ called_stop = get_or-set_same s.words 0 called_stop 0 (let b = k.size in omega arith) in omega arith
+  stop_here = let e : stop_in called_words ≡ called_stop =
+      get_or-set_same s.words 0 called_stop 0 (let b = k.size in omega arith) in omega arith
 
   clock_too : (j : ℕ) → clock_in called_words j ≡ clock_in s.words j
   clock_too j = get_or-set_other s.words 0 (clock_place j) called_stop 0 (λ e. omega arith)
@@ -239,38 +278,67 @@ module _ {S : Type 0} (story : Lists) (shape : Shape) (within : AreWithin shape.
 
   stays_when_called : (j : ℕ) (u : View) → get_elem? s.views j ≡ some u
       → IsTrueView story shape called_words k.owner k.maker k.handed j u
-  stays_when_called j u there = view_stays story shape s.words called_words k.owner k.owner k.maker k.handed k.handed j u
+  stays_when_called j u there = view_stays story shape s.words called_words k.owner k.owner k.maker
+      k.handed k.handed j u
       (omega arith) (λ i lt. let a = clock_too i in omega arith) (λ above. stop_here) (λ _ m. m)
       (λ is o. (refl, clock_too u.slot, λ l lt. area_too u.slot l)) (k.seats j u there)
 
-  pub kept_by_call : IsKept story shape (record { words = called_words; homes = s.homes; views = set s.views seat (with_stop true v) })
+  pub kept_by_call : IsKept story shape
+      (record {
+        words = called_words;
+        homes = s.homes;
+        views =
+            set s.views seat (with_stop true v);
+      })
   kept_by_call = let t = stays_when_called seat v at in record {
     owner = k.owner;
     maker = k.maker;
     handed = k.handed;
     size = length-set s.words 0 called_stop ∙ k.size;
     most = k.most;
-    slots = λ j lt. slot_stays story shape s.words called_words k.handed k.handed j (omega arith) (clock_too j) (λ l _. area_too j l) (k.slots j lt);
-    seats = after_change (λ j u. IsTrueView story shape called_words k.owner k.maker k.handed j u) s.views seat (with_stop true v)
-        (view_learns story shape called_words k.owner k.maker k.handed seat v v.seen v.looks v.fetched true own.role t.seen (λ _. stop_here) t)
+    slots = λ j lt. slot_stays story shape s.words called_words k.handed k.handed j (omega arith)
+        (clock_too j) (λ l _. area_too j l) (k.slots j lt);
+    seats = after_change (λ j u. IsTrueView story shape called_words k.owner k.maker k.handed j u)
+        s.views seat (with_stop true v)
+        (view_learns story shape called_words k.owner k.maker k.handed seat v v.seen v.looks
+        v.fetched true own.role t.seen (λ _. stop_here) t)
         (λ j u _ there. stays_when_called j u there);
-    called = λ above. (seat, with_stop true v, set_here s.views seat (with_stop true v) (is_there s.views seat v at), refl);
+    called = λ above. (
+      seat,
+      with_stop true v,
+      set_here s.views seat (with_stop true v)
+          (is_there s.views seat v at),
+      refl,
+    );
   }
 
 module _ {S : Type 0} (story : Lists) (shape : Shape) (within : AreWithin shape.area story) where
   pub puts : (count seat : ℕ) (me : Me S View) (x : ℕ) → IsOwning story shape me.0
-      → me.0.written < length (list_of story me.0.slot) → x ≡ word_at (list_of story me.0.slot) me.0.written
+      → me.0.written < length (list_of story me.0.slot)
+      → x ≡ word_at (list_of story me.0.slot) me.0.written
       → stamp_at (list_of story me.0.slot) me.0.written ≤ stamp_of me.0.own
       → Allows (IsKept story shape) count seat me (area_place shape me.0.slot me.0.written) (λ _. x)
       (λ _. put (step count (area_place shape me.0.slot me.0.written) x 0 none) me x)
-  puts count seat me x own short word stamp s k homes at fits =
-      (after_put 1 me.0, keeps, tt, kept_by_put story shape within s k seat me.0 own at x short word stamp, refl)
+  puts count seat me x own short word stamp s k homes at fits = (
+    after_put 1 me.0,
+    keeps,
+    tt,
+    kept_by_put story shape within s k seat me.0 own at x short word
+        stamp,
+    refl,
+  )
 
-  pub raises : (count seat : ℕ) (me : Me S View) (n : ℕ) → IsOwning story shape me.0 → IsRaise (list_of story me.0.slot) me.0 n
+  pub raises : (count seat : ℕ) (me : Me S View) (n : ℕ) → IsOwning story shape me.0
+      → IsRaise (list_of story me.0.slot) me.0 n
       → Allows (IsKept story shape) count seat me (clock_place me.0.slot) (λ c. max c n)
       (raise (step count (clock_place me.0.slot) n 0 none) me)
-  raises count seat me n own is s k homes at fits =
-      (after_raise n me.0, keeps, tt, kept_by_any_raise story shape within s k seat me.0 own at n is, refl)
+  raises count seat me n own is s k homes at fits = (
+    after_raise n me.0,
+    keeps,
+    tt,
+    kept_by_any_raise story shape within s k seat me.0 own at n is,
+    refl,
+  )
 
   pub calls : (count seat : ℕ) (me : Me S View) → IsOwning story shape me.0
       → Allows (IsKept story shape) count seat me 0 (λ c. max c 1) (call (step count 0 1 0 none) me)

@@ -5,7 +5,8 @@ use Rattle.clock_words.specs.Stories.{due, list_of}
 use Rattle.clock_words.specs.declared.seat.BoardSeat.TheInside.{Inside}
 use Rattle.clock_words.specs.declared.view.Role.TheVariants.{Owner}
 
--- the fields are those of the view, which owns a slot, and each clock word seen counts what is due at its stamp
+-- the fields are those of the view, which owns a slot, and each clock word seen counts what is due
+-- at its stamp
 pub record IsMirror (s : Inside) : Type 0 where
   pub role : s.place.me.0.role ≡ Owner
   pub slot : s.slot ≡ s.place.me.0.slot

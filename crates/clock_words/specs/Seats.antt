@@ -17,7 +17,8 @@ pub record BoardView : Type 0 where
   pub shape : Shape
   pub story : Lists
 
--- the board of a seat, the slot that it owns, its own clock, how many words it has put, of each slot the clock last seen, the
+-- the board of a seat, the slot that it owns, its own clock, how many words it has put, of each
+-- slot the clock last seen, the
 -- count of looks and the count of words fetched, and its stop mark
 pub record SeatView : Type 0 where
   pub board : BoardView
@@ -95,7 +96,8 @@ with_fetch slot count s = record s {
 abbrev pub with_join : SeatView → SeatView → SeatView
 with_join s other = record s { seen = greater_of s.seen other.seen; stop = s.stop || other.stop }
 
--- what a board keeps: the table was told its shape and its story, has as many words, and no slot has more than an area takes
+-- what a board keeps: the table was told its shape and its story, has as many words, and no slot
+-- has more than an area takes
 pub record IsBoard (shape : Shape) (story : Lists) (table : TableId) (key_shape : Shape)
     (key_story : Lists) : Type 0 where
   pub told_shape : key_shape ≡ shape

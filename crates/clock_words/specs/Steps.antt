@@ -8,7 +8,8 @@ use Rattle.clock_words.specs.Views.{after_fetch, after_look, after_put, after_ra
 use Rattle.clock_words.specs.declared.view.View.{View}
 
 module _ {S : Type 0} where
-  -- the clock word of a slot was found: it counts what is due, and is not below the one that was seen
+  -- the clock word of a slot was found: it counts what is due, and is not below the one that was
+  -- seen
   pub record HasLooked (slot : ℕ) (m : Me S View) (word : ℕ) (m' : Me S View) : Type 0 where
     pub view : m' ≡ (after_look slot word m.0, m.1)
     pub count : due_count word ≡ due (list_of m.0.story slot) (stamp_of word)

@@ -17,9 +17,11 @@ use std::alloc::Global;
 use std::marker::Model;
 use std::snapshot::Snapshot;
 
-/// What the slots of a search see of each other. Contracts see which board it is, its shape, and the lists of its story.
+/// What the slots of a search see of each other. Contracts see which board it is, its shape, and
+/// the lists of its story.
 ///
-/// Each call that takes a seat has the condition that the seat is one of this board's. All but `new` take no memory, wait for
+/// Each call that takes a seat has the condition that the seat is one of this board's. All but
+/// `new` take no memory, wait for
 /// nobody and refuse nothing.
 #[derive(Drop)]
 pub struct Board<S: Story> {
@@ -41,8 +43,10 @@ impl<S: Story> Model for Board<S> {
 }
 
 impl<S: Story> Board<S> {
-    /// A board for 1 to 64 slots with areas of at most 2^22 words, and its seats in the order of their slots: seat i owns
-    /// slot i. No slot's list may be longer than the area. All clocks are 0, and no stop was called.
+    /// A board for 1 to 64 slots with areas of at most 2^22 words, and its seats in the order of
+    /// their slots: seat i owns
+    /// slot i. No slot's list may be longer than the area. All clocks are 0, and no stop was
+    /// called.
     pub fn new(
         alloc: Global,
         story: S,
@@ -73,7 +77,8 @@ impl<S: Story> Board<S> {
         Ok((board, seats))
     }
 
-    /// Loads a slot's clock. The answer is at least what the seat saw before, and becomes what it has seen.
+    /// Loads a slot's clock. The answer is at least what the seat saw before, and becomes what it
+    /// has seen.
     pub fn look(&self, seat: &mut BoardSeat, slot: u32) -> u64
         requires seat { IsSeat self.now seat.old }
         requires slot { slot < self.now.shape.slots }
@@ -86,7 +91,8 @@ impl<S: Story> Board<S> {
         stamp_of(word)
     }
 
-    /// Loads words of a slot from a place on, which are due below the clock seen. They become the story's words at these
+    /// Loads words of a slot from a place on, which are due below the clock seen. They become the
+    /// story's words at these
     /// places.
     pub fn fetch(&self, seat: &mut BoardSeat, slot: u32, from: u32, out: &mut [u64])
         requires seat { IsSeat self.now seat.old }
@@ -128,7 +134,8 @@ impl<S: Story> Board<S> {
         seat.written += words.len() as u32;
     }
 
-    /// Raises the own clock, by one step. The stamp is at least the own clock and below 2^41 - 1, or it is `END_STAMP`, and
+    /// Raises the own clock, by one step. The stamp is at least the own clock and below 2^41 - 1,
+    /// or it is `END_STAMP`, and
     /// every own word that is due below it was put.
     pub fn raise(&self, seat: &mut BoardSeat, stamp: u64)
         requires seat { IsSeat self.now seat.old }
@@ -152,7 +159,8 @@ impl<S: Story> Board<S> {
         raise_stop(&self.table.shared, &mut seat.place);
     }
 
-    /// Loads the stop word, sets the seat's stop mark where a stop was called, and says whether the mark is set. A mark that
+    /// Loads the stop word, sets the seat's stop mark where a stop was called, and says whether the
+    /// mark is set. A mark that
     /// is set stays.
     pub fn stop_seen(&self, seat: &mut BoardSeat) -> bool
         requires seat { IsSeat self.now seat.old }
@@ -163,7 +171,8 @@ impl<S: Story> Board<S> {
         load_stop(&self.table.shared, &mut seat.place)
     }
 
-    /// Joins another seat of this board to a seat, which takes the greater of the clocks seen and the stop mark of either.
+    /// Joins another seat of this board to a seat, which takes the greater of the clocks seen and
+    /// the stop mark of either.
     pub fn join(&self, seat: &mut BoardSeat, other: BoardSeat)
         requires seat { IsSeat self.now seat.old }
         requires other { IsSeat self.now other }

@@ -1,4 +1,5 @@
-//! The clock word of a slot: its stamp in the upper 41 bits, and below the count of its words that are due.
+//! The clock word of a slot: its stamp in the upper 41 bits, and below the count of its words that
+//! are due.
 ghost use Rattle.std.specs.Prelude.{◌≡◌, ◌<◌, ◌^◌};
 ghost use Rattle.clock_words.specs.Clocks.{clock_word as word_of, due_count as count_of, raised_word as word_after, stamp_of as clock_of};
 

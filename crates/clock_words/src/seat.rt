@@ -5,8 +5,10 @@ use crate::clock::due_count;
 use crate::steps::Place;
 use std::marker::Model;
 
-/// A seat of a board, which owns one of its slots. Contracts see the board, the slot, its own clock, how many words it has
-/// put, of each slot the clock last seen, how often it was looked at and how many of its words were fetched, and the stop
+/// A seat of a board, which owns one of its slots. Contracts see the board, the slot, its own
+/// clock, how many words it has
+/// put, of each slot the clock last seen, how often it was looked at and how many of its words were
+/// fetched, and the stop
 /// mark.
 #[derive(Drop)]
 pub struct BoardSeat {
@@ -39,7 +41,8 @@ impl BoardSeat {
         self.slot
     }
 
-    /// How many words of a slot are due below the clock last seen, none before the first look. It takes no step.
+    /// How many words of a slot are due below the clock last seen, none before the first look. It
+    /// takes no step.
     pub fn due(&self, slot: u32) -> u32
         requires { slot < length self.now.seen }
         ensures { result ≡ due_seen self.now slot }

@@ -6,6 +6,15 @@ use Rattle.clock_words.proofs.seating.hand_out.Given as goal
 abbrev pub invariant-loop-slot : goal.invariant-loop-slot
 invariant-loop-slot g l = record {
   table : l.maker.table_id ≡ l.words.table_id;
-  view : l.maker.me ≡ (record (maker (g.S.Story.lists l.words.key.story.value) l.words.key.shape) { handed = l.slot }, []);
-  seats : l.seats ≡ new_seats (record { table = l.words.table_id; shape = l.words.key.shape; story = g.S.Story.lists l.words.key.story.value }) l.slot;
+  view : l.maker.me ≡ (
+    record (maker
+        (g.S.Story.lists l.words.key.story.value) l.words.key.shape) { handed = l.slot },
+    [],
+  );
+  seats : l.seats ≡ new_seats (record {
+    table = l.words.table_id;
+    shape = l.words.key.shape;
+    story =
+        g.S.Story.lists l.words.key.story.value;
+  }) l.slot;
 }

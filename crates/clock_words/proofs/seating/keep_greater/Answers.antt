@@ -4,4 +4,9 @@ use Rattle.clock_words.proofs.Seen.{below_more}
 use Rattle.clock_words.proofs.seating.keep_greater.Goals as goal
 
 pub loop-slot-init : goal.loop-slot-init
-loop-slot-init c = record { size = sym c.requires; same = refl; below = λ k lt. absurd (omega arith) }
+loop-slot-init c = record {
+  size = sym c.requires;
+  same = refl;
+  below =
+      λ k lt. absurd (omega arith);
+}

@@ -8,11 +8,14 @@ use Rattle.clock_words.proofs.steps.load_words.Goals as goal
 pub loop-i-init : goal.loop-i-init
 loop-i-init g c = record {
   same = (refl, refl);
-  view = ap (λ (v : View). (v, c.args.place.now.me.1)) (sym (fetch_nothing c.args.slot c.args.place.now.me.0));
+  view = ap (λ (v : View). (v, c.args.place.now.me.1)) (sym
+      (fetch_nothing c.args.slot c.args.place.now.me.0));
   words = refl;
 }
 
 pub load-requires : goal.load-requires
 load-requires g c =
-    fetch_asked _ _ _ _ _ c.args.slot c.args.from _ c.loop-i.i _ c.args.place.now c.requires.seat c.requires.shape c.requires.within c.requires.slot
-    c.requires.are_due (omega arith) c.loop-i.invariant.same.0 c.loop-i.invariant.view c.area_place.ensures
+    fetch_asked _ _ _ _ _ c.args.slot c.args.from _ c.loop-i.i _ c.args.place.now c.requires.seat
+    c.requires.shape c.requires.within c.requires.slot
+    c.requires.are_due (omega arith) c.loop-i.invariant.same.0 c.loop-i.invariant.view
+    c.area_place.ensures

@@ -12,6 +12,8 @@ loop-i-init g c = record {
 
 pub store-requires : goal.store-requires
 store-requires g c =
-    put_asked _ _ _ _ _ c.args.slot c.args.written c.loop-i.i _ _ c.args.next.now c.args.place.now c.requires.seat c.requires.shape c.requires.within
-    c.requires.slot.0 c.requires.slot.1 c.requires.written c.requires.next (omega arith) refl c.loop-i.invariant.same.0 c.loop-i.invariant.view
+    put_asked _ _ _ _ _ c.args.slot c.args.written c.loop-i.i _ _ c.args.next.now c.args.place.now
+    c.requires.seat c.requires.shape c.requires.within
+    c.requires.slot.0 c.requires.slot.1 c.requires.written c.requires.next
+    (omega arith) refl c.loop-i.invariant.same.0 c.loop-i.invariant.view
     c.area_place.ensures

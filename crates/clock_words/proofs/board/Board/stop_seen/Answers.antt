@@ -3,4 +3,5 @@ use Rattle.clock_words.proofs.Tables.{at_table, list_told, slot_known, slot_told
 use Rattle.clock_words.proofs.board.Board.stop_seen.Goals as goal
 
 pub load_stop-requires-clause-seat : goal.load_stop-requires-clause-seat
-load_stop-requires-clause-seat g c = at_table _ _ _ _ _ _ _ _ c.self.invariant (sym c.self.view_is) (sym c.seat.view_is) c.requires.seat c.seat.invariant.role
+load_stop-requires-clause-seat g c = at_table _ _ _ _ _ _ _ _ c.self.invariant (sym c.self.view_is)
+    (sym c.seat.view_is) c.requires.seat c.seat.invariant.role
