@@ -5,6 +5,11 @@ use native.Mathlib.Decide.{dec_le}
 use Rattle.clock_words.specs.Places.{area_place, clock_place, word_count}
 use Rattle.clock_words.specs.declared.view.Shape.{Shape}
 
+-- the areas of all slots lie below 2 ^ 28
+pub area_fits : (slot area : ℕ) → slot ≤ 64 → area ≤ 4194304 → slot * area ≤ 268435456
+area_fits slot area few small =
+    let a : slot * area ≤ 64 * area = mul-le-mul_right area few in omega arith
+
 further : (i j n : ℕ) → i < j → i * n + n ≤ j * n
 further i j n lt = let a : suc i * n ≤ j * n = mul-le-mul_right n lt in omega (arith, suc-mul i n)
 

@@ -8,15 +8,15 @@ use Rattle.clock_words.specs.Clocks.{stamp_of}
 use Rattle.clock_words.specs.Places.{area_place, clock_place, word_count}
 use Rattle.clock_words.specs.Rule.{IsKept, IsOwning, IsRaise}
 use Rattle.clock_words.specs.Seats.{IsAtTable}
-use Rattle.clock_words.specs.Steps.{ask, call, fetch, look, put, raise}
-use Rattle.clock_words.specs.Stories.{AreWithin, Lists, due, list_of, stamped}
+use Rattle.clock_words.specs.Steps.{HasFetched, ask, call, fetch, look, put, raise}
+use Rattle.clock_words.specs.Stories.{AreWithin, Lists, due, list_of, stamped_word, word_at}
 use Rattle.clock_words.specs.Views.{after_fetch, after_put}
 use Rattle.clock_words.specs.declared.view.Shape.{Shape}
 use Rattle.clock_words.specs.declared.view.View.{View}
 use Rattle.clock_words.proofs.Apart.{area_within, clock_within}
-use Rattle.clock_words.proofs.DueWords.{due_words_most}
+use Rattle.clock_words.proofs.DueWords.{due_within, due_words_most}
 use Rattle.clock_words.proofs.Loads.{asks, fetches, looks}
-use Rattle.clock_words.proofs.Rows.{HasItem, next_put}
+use Rattle.clock_words.proofs.Rows.{HasItem, fetch_again, next_put, put_again}
 use Rattle.clock_words.proofs.Writes.{calls, puts, raises}
 
 module _ {S : Type 0} (story : Lists) (table : TableId) (place : Seat S View) where
@@ -74,12 +74,44 @@ module _ {S : Type 0} (story : Lists) (table : TableId) (place : Seat S View) wh
             (after_fetch slot i entry.me.0, entry.me.1) slot (from + i) owning lt (omega arith)),
       ))
 
+  -- what a load of the next due word tells
+  pub fetch_told : (key_shape shape : Shape) (slot from count i word found : ℕ)
+      (entry : Seat S View)
+      (m' : Me S View) → IsAtTable story key_shape table entry → key_shape ≡ shape
+      → AreWithin shape.area story
+      → from + count ≤ due (list_of story slot) (stamp_of (slice_index entry.me.0.seen slot))
+      → i < count → place.me ≡ (after_fetch slot i entry.me.0, entry.me.1)
+      → word ≡ area_place shape slot (from + i)
+      → fetch (step table.slots word 0 0 none) place.me found m'
+      → (m' ≡ (after_fetch slot (i + 1) entry.me.0, entry.me.1))
+      × (found ≡ word_at (list_of story slot) (from + i))
+  fetch_told key_shape shape slot from count i word found entry m' a same within are_due less me e
+      fetched =
+      let k : ℕ = from + i in
+      let most = due_within shape.area slot
+      (stamp_of (slice_index entry.me.0.seen slot)) story within in
+      let shapes : place.me.0.shape ≡ shape = ap (λ (m : Me S View). m.0.shape) me
+      ∙ (a.owning.told.sizes ∙ same) in
+      let P : Shape → Type 0 = λ z. k < z.area in
+      let short : k < place.me.0.shape.area = subst P (sym shapes) (omega arith) in
+      let places : word ≡ area_place place.me.0.shape slot k =
+      e ∙ ap (λ (z : Shape). area_place z slot k) (sym shapes) in
+      let told : HasFetched slot k place.me found m' = fetched slot k short places in
+      let stories : place.me.0.story ≡ story = ap (λ (m : Me S View). m.0.story) me
+      ∙ a.owning.told.lists in (
+        told.view ∙ (ap (λ (m : Me S View). let n : Me S View = (after_fetch slot 1 m.0, m.1) in
+            n) me
+            ∙ ap (λ (v : View). let n : Me S View = (v, entry.me.1) in n)
+            (fetch_again slot i entry.me.0)),
+        told.word ∙ ap (λ (l : Lists). word_at (list_of l slot) k) stories,
+      )
+
   pub put_asked : (key_shape shape : Shape) (slot written i word x : ℕ) (next : List ℕ)
       (entry : Seat S View)
       → IsAtTable story key_shape table entry → key_shape ≡ shape → AreWithin shape.area story
       → slot ≡ entry.me.0.slot → slot < shape.slots → written ≡ entry.me.0.written
       → take (length next) (drop written (list_of story slot)) ≡ map
-      (stamped (stamp_of entry.me.0.own)) next
+      (stamped_word (stamp_of entry.me.0.own)) next
       → i < length next → x ≡ slice_index next i
       → place.table_id ≡ entry.table_id → place.me ≡ (after_put i entry.me.0, entry.me.1)
       → word ≡ area_place shape slot (written + i) → (place.table_id ≡ table) × (word < table.words)
@@ -120,6 +152,14 @@ module _ {S : Type 0} (story : Lists) (table : TableId) (place : Seat S View) wh
         subst R (sym me) (puts story shape within table.slots place.id
             (after_put i v, entry.me.1) x owning short (is ∙ item'.word_is) (omega arith)),
       ))
+
+  -- what a store of the next own word tells
+  pub put_told : (i : ℕ) (entry : Seat S View) (m' : Me S View)
+      → place.me ≡ (after_put i entry.me.0, entry.me.1) → m' ≡ (after_put 1 place.me.0, place.me.1)
+      → m' ≡ (after_put (i + 1) entry.me.0, entry.me.1)
+  put_told i entry m' me e =
+      e ∙ (ap (λ (m : Me S View). let n : Me S View = (after_put 1 m.0, m.1) in n) me
+      ∙ ap (λ (v : View). let n : Me S View = (v, entry.me.1) in n) (put_again i entry.me.0))
 
   pub raise_asked : (shape : Shape) (slot word n : ℕ) → IsAtTable story shape table place
       → AreWithin shape.area story

@@ -2,7 +2,7 @@
 use Rattle.std.proofs.Common.{ℕ, zero, suc, ◌+◌, ◌<◌, ◌≤◌, ◌≡◌, Bool, true, false, cond, nat_lt, List, [], ◌∷◌, length, refl, sym, ap, ◌∙◌, arith}
 use Rattle.std.proofs.lemmas.Bool.{lt-ltb, ltb-true, ltb-false}
 use Rattle.std.proofs.lemmas.Bool.Decides.{nat_tests}
-use Rattle.clock_words.specs.Stories.{due, stamp_at}
+use Rattle.clock_words.specs.Stories.{AreWithin, Lists, due, list_of, stamp_at}
 use Rattle.clock_words.specs.declared.story.StampedWord.{StampedWord}
 
 -- more words are due below a greater stamp
@@ -30,3 +30,10 @@ due_words_most (w ∷ ws) s = let rest = due_words_most ws s in grind (arith, na
 pub none_due_at_first : (list : List StampedWord) → due list 0 ≡ 0
 none_due_at_first [] = refl
 none_due_at_first (w ∷ ws) = grind (arith, nat_tests)
+
+-- no more words are due than an area takes
+pub due_within : (area slot stamp : ℕ) (lists : Lists) → AreWithin area lists
+    → due (list_of lists slot) stamp ≤ area
+due_within area slot stamp lists within =
+    let most = due_words_most (list_of lists slot) stamp in let short = within.each slot in
+    omega arith

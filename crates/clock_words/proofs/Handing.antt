@@ -161,7 +161,8 @@ module _ {S : Type 0} (story : Lists) (shape : Shape) where
           slots = λ j lt. slot_stays story shape s.words s.words k.handed (k.handed + 1) j
               (omega arith) refl (λ l _. refl) (k.slots j lt);
           seats = λ j u e. ⊎_elim
-              (λ t. after_change P s.views seat (after_handing v) maker_handing others_handing j u t)
+              (λ t. after_change P s.views seat
+              (after_handing v) maker_handing others_handing j u t)
               (λ t. subst (λ i. P i u) (sym t.0) (subst (λ w. P number w) t.1 new_owner))
               (at_end (set s.views seat (after_handing v)) (handed_view v) u j e);
           called = λ above. let m = mark_stays s.views seat v (after_handing v) at (λ is. is)
@@ -204,17 +205,18 @@ module _ {S : Type 0} (story : Lists) (shape : Shape) (s : State S View) (k : Is
     (own : IsOwning story shape v) (at : get_elem? s.views seat ≡ some v) (other : ℕ) (w : View)
     (apart : other ≢ seat)
     (at_other : get_elem? s.views other ≡ some w) where
-  abbrev joined : View
-  joined = after_join v w
+  abbrev joined_view : View
+  joined_view = after_join v w
 
-  abbrev between : State S View
-  between = record s { views = set s.views seat joined }
+  abbrev joined_state : State S View
+  joined_state = record s { views = set s.views seat joined_view }
 
-  kept_between : IsKept story shape between
+  kept_between : IsKept story shape joined_state
   kept_between = let t = k.seats seat v at in let u = k.seats other w at_other in
-      kept_by_load story shape s seat v joined k at (or_left v.stop w.stop)
-      (view_learns story shape s.words k.owner k.maker k.handed seat v joined.seen v.looks v.fetched
-      joined.stop own.role
+      kept_by_load story shape s seat v joined_view k at (or_left v.stop w.stop)
+      (view_learns story shape s.words k.owner k.maker k.handed seat v joined_view.seen v.looks
+      v.fetched
+      joined_view.stop own.role
       (λ j lt. greater_below v.seen w.seen j (clock_in s.words j) (t.seen j lt) (u.seen j lt))
       (λ is. ⊎_elim t.stop u.stop (either_true v.stop w.stop is)) t)
 
@@ -227,26 +229,26 @@ module _ {S : Type 0} (story : Lists) (shape : Shape) (s : State S View) (k : Is
     as_owner = λ is. absurd (let e : Spent ≡ Owner = is in cc);
   }
 
-  mark_after_join : HasMark between.views → HasMark (set between.views other spent)
+  mark_after_join : HasMark joined_state.views → HasMark (set joined_state.views other spent)
   mark_after_join mark = let j = mark.0 in let u = mark.1 in dite (ℕ_discrete j other)
       (λ e. let here : get_elem? s.views other ≡ some u =
-      sym (set_else s.views seat other joined apart)
-      ∙ subst (λ i. get_elem? between.views i ≡ some u) e mark.2 in
+      sym (set_else s.views seat other joined_view apart)
+      ∙ subst (λ i. get_elem? joined_state.views i ≡ some u) e mark.2 in
       let same : w ≡ u = some-injective w u (sym at_other ∙ here) in (
         seat,
-        joined,
-        set_else between.views other seat spent (λ i. apart (sym i))
-            ∙ set_here s.views seat joined (is_there s.views seat v at),
+        joined_view,
+        set_else joined_state.views other seat spent (λ i. apart (sym i))
+            ∙ set_here s.views seat joined_view (is_there s.views seat v at),
         or_right v.stop w.stop (ap (λ (x : View). x.stop) same ∙ mark.3),
       ))
-      (λ ne. (j, u, set_else between.views other j spent ne ∙ mark.2, mark.3))
+      (λ ne. (j, u, set_else joined_state.views other j spent ne ∙ mark.2, mark.3))
 
   pub kept_by_join : IsKept story shape
       (record {
         words = s.words;
         homes = s.homes;
         views =
-            set (set s.views seat joined) other spent;
+            set (set s.views seat joined_view) other spent;
       })
   kept_by_join = let b = kept_between in record {
     owner = b.owner;
@@ -256,7 +258,7 @@ module _ {S : Type 0} (story : Lists) (shape : Shape) (s : State S View) (k : Is
     most = b.most;
     slots = b.slots;
     seats = after_change (λ j u. IsTrueView story shape s.words b.owner b.maker b.handed j u)
-        between.views other spent spent_view
+        joined_state.views other spent spent_view
         (λ j u _ there. b.seats j u there);
     called = λ above. mark_after_join (b.called above);
   }

@@ -44,7 +44,7 @@ seen_after_look shape words seen slot sees j lt = let n : ℕ = clock_in words s
 
 module _ {S : Type 0} (story : Lists) (shape : Shape) where
   -- the rule, after a load and a change of one view
-  loaded : (s : State S View) (place i : ℕ) (w : View) → IsKept story shape
+  kept_after_load : (s : State S View) (place i : ℕ) (w : View) → IsKept story shape
       (record s { views = set s.views i w })
       → IsKept story shape (record {
         words = set s.words place (get_or s.words place 0);
@@ -52,7 +52,7 @@ module _ {S : Type 0} (story : Lists) (shape : Shape) where
             s.homes;
         views = set s.views i w;
       })
-  loaded s place i w k =
+  kept_after_load s place i w k =
       let P : List ℕ → Type 0 = λ ws. IsKept story shape
       (record { words = ws; homes = s.homes; views = set s.views i w }) in
       subst P (sym (set-get_or s.words place 0)) k
@@ -77,7 +77,8 @@ module _ {S : Type 0} (story : Lists) (shape : Shape) where
         w,
         keeps,
         tt,
-        loaded s (clock_place slot) seat w (kept_by_load story shape s seat v w k at (λ is. is)
+        kept_after_load s (clock_place slot) seat w (kept_by_load story shape s seat v w k at
+            (λ is. is)
             (view_learns story shape s.words k.owner k.maker k.handed seat v w.seen w.looks
             v.fetched v.stop own.role
             (seen_after_look shape s.words v.seen slot t.seen) t.stop t)),
@@ -112,7 +113,8 @@ module _ {S : Type 0} (story : Lists) (shape : Shape) where
         w,
         keeps,
         tt,
-        loaded s (area_place shape slot k) seat w (kept_by_load story shape s seat v w kept at
+        kept_after_load s (area_place shape slot k) seat w
+            (kept_by_load story shape s seat v w kept at
             (λ is. is)
             (view_learns story shape s.words kept.owner kept.maker kept.handed seat v v.seen v.looks
             w.fetched v.stop own.role t.seen t.stop t)),
@@ -138,7 +140,7 @@ module _ {S : Type 0} (story : Lists) (shape : Shape) where
         w,
         keeps,
         tt,
-        loaded s 0 seat w (kept_by_load story shape s seat v w kept at
+        kept_after_load s 0 seat w (kept_by_load story shape s seat v w kept at
             (λ is. lt-ltb 0 n (t.stop is))
             (view_learns story shape s.words kept.owner kept.maker kept.handed seat v v.seen v.looks
             v.fetched (nat_lt 0 n) own.role t.seen (λ is. ltb-true 0 n is) t)),

@@ -3,7 +3,7 @@ use Rattle.std.proofs.Common.{ℕ, zero, suc, ◌+◌, ◌<◌, ◌≤◌, ◌�
 use Rattle.std.proofs.lemmas.List.{get_or-drop}
 use Rattle.std.proofs.Common.{length-drop, length-take, subst}
 use Rattle.std.proofs.lemmas.List.{length-map}
-use Rattle.clock_words.specs.Stories.{stamp_at, stamped, stamps_of, word_at, words_of}
+use Rattle.clock_words.specs.Stories.{AreWithin, Lists, list_of, stamp_at, stamped_word, stamps_of, word_at, words_of}
 use Rattle.clock_words.specs.Views.{after_fetch, after_put}
 use Rattle.clock_words.specs.declared.story.StampedWord.{StampedWord}
 use Rattle.clock_words.specs.declared.view.View.{View}
@@ -75,17 +75,17 @@ pub record HasItem (list : List StampedWord) (place word stamp : ℕ) : Type 0 w
   pub stamp_is : stamp_at list place ≡ stamp
 
 front_item : (list : List StampedWord) (words : List ℕ) (stamp i : ℕ)
-    → take (length words) list ≡ map (stamped stamp) words
+    → take (length words) list ≡ map (stamped_word stamp) words
     → i < length words → HasItem list i (slice_index words i) stamp
 front_item list [] stamp i e lt = absurd (omega arith)
 front_item [] (x ∷ xs) stamp i e lt = absurd (cc)
-front_item (w ∷ ws) (x ∷ xs) stamp zero e lt = let same : w ≡ stamped stamp x = cc in record {
+front_item (w ∷ ws) (x ∷ xs) stamp zero e lt = let same : w ≡ stamped_word stamp x = cc in record {
   short = omega arith;
   word_is = sym (ap (λ (z : StampedWord). z.word) same);
   stamp_is = ap (λ (z : StampedWord). z.stamp) same;
 }
 front_item (w ∷ ws) (x ∷ xs) stamp (suc i) e lt = let tail : take (length xs) ws ≡ map
-    (stamped stamp) xs = cc in
+    (stamped_word stamp) xs = cc in
     let rest = front_item ws xs stamp i tail (omega arith) in record {
       short = let a = rest.short in omega arith;
       word_is = rest.word_is;
@@ -107,7 +107,7 @@ item_after (w ∷ ws) (suc skip) i (suc place) word stamp e item =
 
 -- each of the next words stands in the list with the stamp
 pub next_put : (list : List StampedWord) (words : List ℕ) (written stamp i : ℕ)
-    → take (length words) (drop written list) ≡ map (stamped stamp) words → i < length words
+    → take (length words) (drop written list) ≡ map (stamped_word stamp) words → i < length words
     → HasItem list (written + i) (slice_index words i) stamp
 next_put list words written stamp i e lt =
     item_after list written i (written + i) (slice_index words i) stamp refl
@@ -116,9 +116,18 @@ next_put list words written stamp i e lt =
 -- where these are the next words of a list, there are so many more
 pub as_many_next : (list : List StampedWord) (words : List ℕ) (written stamp : ℕ)
     → written ≤ length list
-    → take (length words) (drop written list) ≡ map (stamped stamp) words
+    → take (length words) (drop written list) ≡ map (stamped_word stamp) words
     → written + length words ≤ length list
 as_many_next list words written stamp le e =
     let a : length (take (length words) (drop written list)) ≡ length words = ap length e
-    ∙ length-map words (stamped stamp) in
+    ∙ length-map words (stamped_word stamp) in
     omega (arith, length-take (length words) (drop written list), length-drop written list)
+
+-- the next words of a list stand within the area
+pub next_within : (area slot written stamp i : ℕ) (lists : Lists) (words : List ℕ)
+    → AreWithin area lists
+    → take (length words) (drop written (list_of lists slot)) ≡ map (stamped_word stamp) words
+    → i < length words → written + i < area
+next_within area slot written stamp i lists words within e lt =
+    let item = next_put (list_of lists slot) words written stamp i e lt in
+    let short = item.short in let most = within.each slot in omega arith

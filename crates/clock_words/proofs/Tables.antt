@@ -1,5 +1,5 @@
 -- A board and its table, a seat and its place at the table.
-use Rattle.std.proofs.Common.{ℕ, zero, suc, ◌+◌, ◌*◌, ◌<◌, ◌≤◌, ◌≡◌, List, [], ◌∷◌, length, map, set, replicate, slice_index, slice_set, refl, sym, ap, ◌∙◌, subst, arith, mul-le-mul_right}
+use Rattle.std.proofs.Common.{ℕ, zero, suc, ◌+◌, ◌^◌, ◌<◌, ◌≤◌, ◌≡◌, List, [], ◌∷◌, length, map, set, replicate, slice_index, slice_set, refl, sym, ap, ◌∙◌, subst, arith}
 use Rattle.std.proofs.lemmas.List.{length-map}
 use Rattle.std.proofs.Math.ListN.{get_or-map}
 use Rattle.atomic_table.specs.Seated.{TableId}
@@ -12,11 +12,6 @@ use Rattle.clock_words.specs.Stories.{AreWithin, Lists, list_of}
 use Rattle.clock_words.specs.declared.view.Role.TheVariants.{Owner}
 use Rattle.clock_words.specs.declared.view.Shape.{Shape}
 use Rattle.clock_words.specs.declared.view.View.{View}
-
--- a slot's area lies below 2 ^ 28
-pub area_fits : (slot area : ℕ) → slot ≤ 64 → area ≤ 4194304 → slot * area ≤ 268435456
-area_fits slot area few small = let a : slot * area ≤ 64 * area = mul-le-mul_right area few in
-    omega arith
 
 -- the stamp seen of a slot
 pub stamp_seen : (words : List ℕ) (slot : ℕ) → slice_index (map stamp_of words) slot ≡ stamp_of
@@ -105,3 +100,11 @@ module _ {S : Type 0} (shape : Shape) (story : Lists) (table : TableId) (key_sha
       let c : s.seen ≡ map stamp_of place.me.0.seen = ap (λ (z : SeatView). z.seen) v in
       let d : board.shape.slots ≡ shape.slots = ap (λ (z : BoardView). z.shape.slots) b in
       sym (length-map place.me.0.seen stamp_of) ∙ (ap length (sym c) ∙ (a ∙ d))
+
+  -- a seat has put fewer words than the count of a clock word holds
+  pub written_small : place.me.0.written ≤ length (list_of place.me.0.story place.me.0.slot)
+      → place.me.0.written < 2 ^ 23
+  written_small most =
+      let P : Lists → Type 0 = λ l. place.me.0.written ≤ length (list_of l place.me.0.slot) in
+      let a = subst P story_of_view most in let b = is.within.each place.me.0.slot in
+      let c = is.sizes.most_words in omega arith

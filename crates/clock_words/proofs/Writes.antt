@@ -152,48 +152,49 @@ module _ {S : Type 0} (story : Lists) (shape : Shape) (within : AreWithin shape.
     abbrev clock' : ℕ
     clock' = max (get_or s.words (clock_place v.slot) 0) n
 
-    abbrev raised : List ℕ
-    raised = set s.words (clock_place v.slot) clock'
+    abbrev raised_words : List ℕ
+    raised_words = set s.words (clock_place v.slot) clock'
 
-    clock_here : clock_in raised v.slot ≡ n
+    clock_here : clock_in raised_words v.slot ≡ n
     clock_here = let a = mine.own in let b : clock' ≡ n = omega arith in
         get_or-set_same s.words (clock_place v.slot) clock' 0
         (let c = clock_within shape v.slot in_slots in let d = k.size in omega arith) ∙ b
 
-    clock_other : (j : ℕ) → j ≢ v.slot → clock_in raised j ≡ clock_in s.words j
+    clock_other : (j : ℕ) → j ≢ v.slot → clock_in raised_words j ≡ clock_in s.words j
     clock_other j ne = get_or-set_other s.words (clock_place v.slot) (clock_place j) clock' 0
         (λ e. ne (omega arith))
 
-    clock_rises : (j : ℕ) → clock_in s.words j ≤ clock_in raised j
-    clock_rises j = let P : ℕ → Type 0 = λ i. clock_in s.words i ≤ clock_in raised i in
+    clock_rises : (j : ℕ) → clock_in s.words j ≤ clock_in raised_words j
+    clock_rises j = let P : ℕ → Type 0 = λ i. clock_in s.words i ≤ clock_in raised_words i in
         dite (ℕ_discrete j v.slot)
         (λ e. subst P (sym e) (let a = mine.own in let b = clock_here in omega arith))
         (λ ne. let a = clock_other j ne in omega arith)
 
-    area_stays : (j l : ℕ) → area_in shape raised j l ≡ area_in shape s.words j l
+    area_stays : (j l : ℕ) → area_in shape raised_words j l ≡ area_in shape s.words j l
     area_stays j l = get_or-set_other s.words (clock_place v.slot) (area_place shape j l) clock' 0
         (λ e. let a = clock_before_area shape v.slot j l in_slots in omega arith)
 
-    stop_stays : stop_in raised ≡ stop_in s.words
+    stop_stays : stop_in raised_words ≡ stop_in s.words
     stop_stays = get_or-set_other s.words (clock_place v.slot) 0 clock' 0 (λ e. omega arith)
 
-    own_slot : IsSlot story shape raised k.handed v.slot
+    own_slot : IsSlot story shape raised_words k.handed v.slot
     own_slot = record {
       count = rw clock_here count;
-      due_words = λ l lt. let c : due_count (clock_in raised v.slot) ≡ due_count n =
+      due_words = λ l lt. let c : due_count (clock_in raised_words v.slot) ≡ due_count n =
           ap due_count clock_here in
           area_stays v.slot l ∙ mine.put_words l (omega arith);
       fresh = λ le. absurd (let a = mine.slot in omega arith);
     }
 
-    slot_after_raise : (j : ℕ) → j < shape.slots → IsSlot story shape raised k.handed j
-    slot_after_raise j lt = let P : ℕ → Type 0 = λ i. IsSlot story shape raised k.handed i in
+    slot_after_raise : (j : ℕ) → j < shape.slots → IsSlot story shape raised_words k.handed j
+    slot_after_raise j lt = let P : ℕ → Type 0 = λ i. IsSlot story shape raised_words k.handed i in
         dite (ℕ_discrete j v.slot)
         (λ e. subst P (sym e) own_slot)
-        (λ ne. slot_stays story shape s.words raised k.handed k.handed j (omega arith)
+        (λ ne. slot_stays story shape s.words raised_words k.handed k.handed j (omega arith)
         (clock_other j ne) (λ l _. area_stays j l) (k.slots j lt))
 
-    view_after_raise : IsTrueView story shape raised k.owner k.maker k.handed seat (after_raise n v)
+    view_after_raise : IsTrueView story shape raised_words k.owner k.maker k.handed seat
+        (after_raise n v)
     view_after_raise = let t = k.seats seat v at in record {
       seen = λ j lt. let a = t.seen j lt in let b = clock_rises j in omega arith;
       stop = λ is. let a = t.stop is in let b = stop_stays in omega arith;
@@ -211,16 +212,21 @@ module _ {S : Type 0} (story : Lists) (shape : Shape) (within : AreWithin shape.
     }
 
     others_after_raise : (j : ℕ) (u : View) → j ≢ seat → get_elem? s.views j ≡ some u
-        → IsTrueView story shape raised k.owner k.maker k.handed j u
+        → IsTrueView story shape raised_words k.owner k.maker k.handed j u
     others_after_raise j u ne there =
-        view_stays story shape s.words raised k.owner k.owner k.maker k.handed k.handed j u
+        view_stays story shape s.words raised_words k.owner k.owner k.maker k.handed k.handed j u
         (omega arith) (λ i lt. clock_rises i) (λ above. let b = stop_stays in omega arith)
         (λ _ m. m)
         (λ is o. (refl, clock_other u.slot (other_slot j u ne o), λ l lt. area_stays u.slot l))
         (k.seats j u there)
 
     pub kept_by_raise : IsKept story shape
-        (record { words = raised; homes = s.homes; views = set s.views seat (after_raise n v) })
+        (record {
+          words = raised_words;
+          homes = s.homes;
+          views =
+              set s.views seat (after_raise n v);
+        })
     kept_by_raise = record {
       owner = k.owner;
       maker = k.maker;
@@ -228,7 +234,7 @@ module _ {S : Type 0} (story : Lists) (shape : Shape) (within : AreWithin shape.
       size = length-set s.words (clock_place v.slot) clock' ∙ k.size;
       most = k.most;
       slots = slot_after_raise;
-      seats = after_change (λ j u. IsTrueView story shape raised k.owner k.maker k.handed j u)
+      seats = after_change (λ j u. IsTrueView story shape raised_words k.owner k.maker k.handed j u)
           s.views seat (after_raise n v)
           view_after_raise others_after_raise;
       called = λ above. mark_stays s.views seat v (after_raise n v) at (λ is. is)

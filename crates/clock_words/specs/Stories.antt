@@ -23,8 +23,8 @@ abbrev pub stamp_at : List StampedWord → ℕ → ℕ
 stamp_at list k = slice_index (stamps_of list) k
 
 -- a word with its stamp
-abbrev pub stamped : ℕ → ℕ → StampedWord
-stamped stamp word = record { stamp = stamp; word = word }
+abbrev pub stamped_word : ℕ → ℕ → StampedWord
+stamped_word stamp word = record { stamp = stamp; word = word }
 
 -- how many words are due below a stamp: those in front with a smaller one
 abbrev pub due : List StampedWord → ℕ → ℕ

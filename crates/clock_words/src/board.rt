@@ -2,7 +2,7 @@ ghost use Rattle.std.specs.Prelude.{◌≡◌, ◌+◌, ◌<◌, ◌≤◌, ◌|
 ghost use Rattle.clock_words.specs.Clocks.{IsStamp};
 ghost use Rattle.clock_words.specs.Places.{IsShape};
 ghost use Rattle.clock_words.specs.Seats.{IsSeat, clock_seen, due_seen, new_seats, own_list, with_fetch, with_join, with_look};
-ghost use Rattle.clock_words.specs.Stories.{AreWithin, due, list_of, stamped, words_of};
+ghost use Rattle.clock_words.specs.Stories.{AreWithin, due, list_of, stamped_word, words_of};
 
 use crate::clock::{raised_word, stamp_of};
 use crate::rule::{BoardRule, Setup, TakeIn};
@@ -117,7 +117,7 @@ impl<S: Story> Board<S> {
     pub fn put(&self, seat: &mut BoardSeat, words: &[u64])
         requires seat { IsSeat self.now seat.old }
         requires next { take (length words.now) (drop seat.old.written (own_list seat.old)) ≡
-            map (stamped seat.old.own) words.now }
+            map (stamped_word seat.old.own) words.now }
         ensures seat { IsSeat self.now seat.new }
         ensures view { seat.new ≡
             record seat.old { written = seat.old.written + length words.now } }

@@ -5,7 +5,7 @@ ghost use Rattle.clock_words.specs.Places.{IsShape, area_place as place_of_area,
 ghost use Rattle.clock_words.specs.Rule.{IsRaise};
 ghost use Rattle.clock_words.specs.Seats.{IsAtTable, IsSamePlace};
 ghost use Rattle.clock_words.specs.Steps.{HasAsked, HasLooked};
-ghost use Rattle.clock_words.specs.Stories.{AreWithin, due, list_of, stamped, words_of};
+ghost use Rattle.clock_words.specs.Stories.{AreWithin, due, list_of, stamped_word, words_of};
 ghost use Rattle.clock_words.specs.Views.{after_fetch, after_put, after_raise, with_stop};
 
 use crate::rule::{Ask, BoardRule, Call, Fetch, Look, Put, Raise, Setup};
@@ -94,7 +94,7 @@ pub(crate) fn store_words<S: Story>(
     requires written { written ≡ place.old.me.0.written }
     requires next { take (length next.now)
         (drop written (list_of (S.lists words.now.key.story.value) slot)) ≡
-        map (stamped (stamp_of place.old.me.0.own)) next.now }
+        map (stamped_word (stamp_of place.old.me.0.own)) next.now }
     ensures seat { IsSamePlace place.old place.new }
     ensures view { place.new.me ≡ (after_put (length next.now) place.old.me.0, place.old.me.1) }
 {

@@ -13,9 +13,9 @@ use std::thread::Threads;
 
 /// A story without words.
 #[derive(Drop)]
-struct Silence;
+struct NoWords;
 
-impl Story for Silence {
+impl Story for NoWords {
     ghost use Rattle.std.specs.Prelude.{[]};
     ghost use Rattle.clock_words.specs.Samples.{none_rise};
 
@@ -74,7 +74,7 @@ fn two_seats<S: Story + Drop>(
 
 /// What seat 1 finds as the clock of slot 0, before and after seat 0 raises it to 5.
 fn looks_around_a_raise(
-    board: &Board<Silence>,
+    board: &Board<NoWords>,
     one: &mut BoardSeat,
     other: &mut BoardSeat,
 ) -> (u64, u64)
@@ -91,7 +91,7 @@ fn looks_around_a_raise(
 
 #[test]
 fn look_loads_the_clock_of_the_slot(rt: HostRuntime) -> Result<(), Fail> {
-    let (board, mut one, mut other) = two_seats(rt.alloc(), Silence, 64)?;
+    let (board, mut one, mut other) = two_seats(rt.alloc(), NoWords, 64)?;
     assert_eq!(rt; looks_around_a_raise(&board, &mut one, &mut other), (0, 5));
     assert_eq!(rt; (one.slot(), other.slot()), (0, 1));
     Ok(())
@@ -99,7 +99,7 @@ fn look_loads_the_clock_of_the_slot(rt: HostRuntime) -> Result<(), Fail> {
 
 #[test]
 fn stop_is_seen_after_a_call(rt: HostRuntime) -> Result<(), Fail> {
-    let (board, mut one, mut other) = two_seats(rt.alloc(), Silence, 64)?;
+    let (board, mut one, mut other) = two_seats(rt.alloc(), NoWords, 64)?;
     assert!(rt; !board.stop_seen(&mut other));
     board.call_stop(&mut one);
     assert!(rt; board.stop_seen(&mut other));
