@@ -6,7 +6,7 @@ use Rattle.atomic_table.specs.Seated.{TableId}
 use Rattle.clock_words.specs.Clocks.{IsStamp, raised_word, stamp_of}
 use Rattle.clock_words.specs.Mirrors.{IsMirror}
 use Rattle.clock_words.specs.Rule.{IsRaise}
-use Rattle.clock_words.specs.Seats.{BoardView, IsSeat, SeatView, due_seen, new_seat, new_seats, own_list, seat_view, with_fetch, with_join, with_look}
+use Rattle.clock_words.specs.Seats.{BoardView, IsSeat, SeatView, clock_seen, due_seen, new_seat, new_seats, own_list, seat_view, with_fetch, with_join, with_look}
 use Rattle.clock_words.specs.Stories.{AreWithin, Lists, due, list_of, stamped_word}
 use Rattle.clock_words.specs.Views.{after_fetch, after_join, after_look, after_put, after_raise, greater_of, with_stop}
 use Rattle.clock_words.specs.declared.seat.BoardSeat.TheInside.{Inside}
@@ -14,7 +14,7 @@ use Rattle.clock_words.specs.declared.story.StampedWord.{StampedWord}
 use Rattle.clock_words.specs.declared.view.View.{View}
 use Rattle.clock_words.proofs.Greater.{greater_length}
 use Rattle.clock_words.proofs.Rows.{as_many_next}
-use Rattle.clock_words.proofs.Stamps.{raised_is}
+use Rattle.clock_words.proofs.Stamps.{raised_is, stamps_rise}
 use Rattle.clock_words.proofs.Surface.{view_after_fetch, view_after_join, view_after_look, view_after_put, view_after_raise, view_with_stop}
 use Rattle.clock_words.proofs.Tables.{stamp_seen}
 
@@ -22,19 +22,22 @@ use Rattle.clock_words.proofs.Tables.{stamp_seen}
 module _ (inside : Inside) (s : SeatView) (story : Lists) (mirror : IsMirror inside)
     (seen_as : seat_view inside.place.table_id inside.place.me.0 ≡ s)
     (told : inside.place.me.0.story ≡ story) where
-  abbrev v : View
-  v = inside.place.me.0
+  abbrev table_view : View
+  table_view = inside.place.me.0
 
   -- the words that callers know to be due are due at the table
   pub due_is : (slot n : ℕ) → n ≤ due_seen s slot
       → n ≤ due (list_of story slot) (stamp_of (slice_index inside.place.me.0.seen slot))
   due_is slot n le =
       let P : SeatView → Type 0 = λ z. n ≤ due_seen z slot in
-      let a : n ≤ due_seen (seat_view inside.place.table_id v) slot = subst P (sym seen_as) le in
-      let Q : ℕ → Type 0 = λ clock. n ≤ due (list_of v.story slot) clock in
-      let b : n ≤ due (list_of v.story slot) (stamp_of (slice_index v.seen slot)) =
-      subst Q (stamp_seen v.seen slot) a in
-      subst (λ (l : Lists). n ≤ due (list_of l slot) (stamp_of (slice_index v.seen slot))) told b
+      let a : n ≤ due_seen (seat_view inside.place.table_id table_view) slot =
+      subst P (sym seen_as) le in
+      let Q : ℕ → Type 0 = λ clock. n ≤ due (list_of table_view.story slot) clock in
+      let b : n ≤ due (list_of table_view.story slot) (stamp_of
+      (slice_index table_view.seen slot)) =
+      subst Q (stamp_seen table_view.seen slot) a in
+      subst (λ (l : Lists). n ≤ due (list_of l slot) (stamp_of
+      (slice_index table_view.seen slot))) told b
 
   -- the next own words are those that the table is to take
   pub next_is : (words : List ℕ)
@@ -44,41 +47,50 @@ module _ (inside : Inside) (s : SeatView) (story : Lists) (mirror : IsMirror ins
   next_is words e =
       let P : SeatView → Type 0 = λ z. take (length words) (drop z.written (own_list z))
       ≡ map (stamped_word z.own) words in
-      let a : P (seat_view inside.place.table_id v) = subst P (sym seen_as) e in
+      let a : P (seat_view inside.place.table_id table_view) = subst P (sym seen_as) e in
       let Q : Lists → ℕ → ℕ → Type 0 = λ l j k. take (length words) (drop k (list_of l j))
-      ≡ map (stamped_word (stamp_of v.own)) words in
-      let b : Q story v.slot v.written = subst (λ (l : Lists). Q l v.slot v.written) told a in
-      let c : Q story inside.slot v.written =
-      subst (λ (j : ℕ). Q story j v.written) (sym mirror.slot) b in
+      ≡ map (stamped_word (stamp_of table_view.own)) words in
+      let b : Q story table_view.slot table_view.written =
+      subst (λ (l : Lists). Q l table_view.slot table_view.written) told a in
+      let c : Q story inside.slot table_view.written =
+      subst (λ (j : ℕ). Q story j table_view.written) (sym mirror.slot) b in
       subst (λ (k : ℕ). Q story inside.slot k) (sym mirror.written) c
 
   -- there are as many more words of the own slot
   pub put_most : (words : List ℕ)
       → take (length words) (drop s.written (own_list s)) ≡ map (stamped_word s.own) words
-      → v.written + length words ≤ length (list_of v.story v.slot)
+      → inside.place.me.0.written + length words
+      ≤ length (list_of inside.place.me.0.story inside.place.me.0.slot)
   put_most words e =
       let P : SeatView → Type 0 = λ z. take (length words) (drop z.written (own_list z))
       ≡ map (stamped_word z.own) words in
-      let a : P (seat_view inside.place.table_id v) = subst P (sym seen_as) e in
-      as_many_next (list_of v.story v.slot) words v.written (stamp_of v.own) mirror.most a
+      let a : P (seat_view inside.place.table_id table_view) = subst P (sym seen_as) e in
+      as_many_next (list_of table_view.story table_view.slot) words table_view.written
+      (stamp_of table_view.own) mirror.most a
 
   -- a raise that callers may make is one that the table takes
-  pub raise_is : (stamp word : ℕ) → v.written < 2 ^ 23 → IsStamp stamp → s.own ≤ stamp
+  pub raise_is : (stamp word : ℕ) → inside.place.me.0.written < 2 ^ 23 → IsStamp stamp
+      → s.own ≤ stamp
       → due (own_list s) stamp ≤ s.written → word ≡ raised_word inside.own inside.written stamp
       → IsRaise (list_of story inside.slot) inside.place.me.0 word
   raise_is stamp word small ok above enough e =
       let P : SeatView → Type 0 = λ z. z.own ≤ stamp in
       let Q : SeatView → Type 0 = λ z. due (own_list z) stamp ≤ z.written in
-      let above' : stamp_of v.own ≤ stamp = subst P (sym seen_as) above in
-      let enough' : due (list_of v.story v.slot) stamp ≤ v.written = subst Q (sym seen_as) enough in
-      let words : word ≡ raised_word v.own v.written stamp =
+      let above' : stamp_of table_view.own ≤ stamp = subst P (sym seen_as) above in
+      let enough' : due (list_of table_view.story table_view.slot) stamp ≤ table_view.written =
+      subst Q (sym seen_as) enough in
+      let words : word ≡ raised_word table_view.own table_view.written stamp =
       e ∙ (ap (λ (n : ℕ). raised_word n inside.written stamp) mirror.own
-      ∙ ap (λ (n : ℕ). raised_word v.own n stamp) mirror.written) in
-      let R : Lists → ℕ → ℕ → Type 0 = λ l j n. IsRaise (list_of l j) v n in
-      let a : R v.story v.slot (raised_word v.own v.written stamp) =
-      raised_is (list_of v.story v.slot) v stamp ok above' enough' small in
-      let b : R v.story v.slot word = subst (λ (n : ℕ). R v.story v.slot n) (sym words) a in
-      let c : R story v.slot word = subst (λ (l : Lists). R l v.slot word) told b in
+      ∙ ap (λ (n : ℕ). raised_word table_view.own n stamp) mirror.written) in
+      let R : Lists → ℕ → ℕ → Type 0 = λ l j n. IsRaise (list_of l j) table_view n in
+      let a : R table_view.story table_view.slot
+      (raised_word table_view.own table_view.written stamp) =
+      raised_is (list_of table_view.story table_view.slot) table_view stamp ok above' enough' small
+      in
+      let b : R table_view.story table_view.slot word =
+      subst (λ (n : ℕ). R table_view.story table_view.slot n) (sym words) a in
+      let c : R story table_view.slot word =
+      subst (λ (l : Lists). R l table_view.slot word) told b in
       subst (λ (j : ℕ). R story j word) (sym mirror.slot) c
 
 -- what callers see after a step
@@ -116,6 +128,15 @@ module _ (table table' : TableId) (v v' : View) (s : SeatView) (same : table' �
   join_seen other u t e is = view_after_join table table' v v' same other u e
       ∙ (ap (λ (z : SeatView). with_join z (seat_view other u)) seen_as
       ∙ ap (λ (z : SeatView). with_join s z) is)
+
+-- a look gives no earlier clock than was seen
+pub look_later : (table : TableId) (v : View) (s : SeatView) (slot word clock : ℕ)
+    → seat_view table v ≡ s → slice_index v.seen slot ≤ word → clock ≡ stamp_of word
+    → clock_seen s slot ≤ clock
+look_later table v s slot word clock seen_as le is =
+    let a = stamps_rise (slice_index v.seen slot) word le in let b = stamp_seen v.seen slot in
+    let later : slice_index (map stamp_of v.seen) slot ≤ clock = omega arith in
+    subst (λ (z : SeatView). clock_seen z slot ≤ clock) seen_as later
 
 -- a seat of a board stays one
 module _ (b : BoardView) (s s' : SeatView) (seat : IsSeat b s) where

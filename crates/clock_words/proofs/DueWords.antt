@@ -1,8 +1,9 @@
 -- How many words of a slot are due.
 use Rattle.std.proofs.Common.{ℕ, zero, suc, ◌+◌, ◌<◌, ◌≤◌, ◌≡◌, Bool, true, false, cond, nat_lt, List, [], ◌∷◌, length, refl, sym, ap, ◌∙◌, arith}
 use Rattle.std.proofs.lemmas.Bool.{lt-ltb, ltb-true, ltb-false}
+use Rattle.std.proofs.lemmas.List.{length-map}
 use Rattle.std.proofs.lemmas.Bool.Decides.{nat_tests}
-use Rattle.clock_words.specs.Stories.{AreWithin, Lists, due, list_of, stamp_at}
+use Rattle.clock_words.specs.Stories.{AreWithin, Lists, due, list_of, stamp_at, words_of}
 use Rattle.clock_words.specs.declared.story.StampedWord.{StampedWord}
 
 -- more words are due below a greater stamp
@@ -37,3 +38,9 @@ pub due_within : (area slot stamp : ℕ) (lists : Lists) → AreWithin area list
 due_within area slot stamp lists within =
     let most = due_words_most (list_of lists slot) stamp in let short = within.each slot in
     omega arith
+
+-- a due word is one of the list
+pub due_short : (list : List StampedWord) (stamp n k : ℕ) → n ≤ due list stamp → k < n
+    → k < length (words_of list)
+due_short list stamp n k le lt =
+    omega (arith, due_words_most list stamp, length-map list (λ (w : StampedWord). w.word))

@@ -16,16 +16,6 @@ use Rattle.clock_words.proofs.Greater.{greater_either, greater_length, stamps_of
 use Rattle.clock_words.proofs.Seen.{counts_after_look, zeros_count}
 use Rattle.clock_words.proofs.Tables.{stamp_seen, stamps_of_zeros, stamps_seen_set}
 
--- a seat stays one of its board where its board, its slot and the number of clocks seen stay
-pub seat_stays : (b : BoardView) (s s' : SeatView) → IsSeat b s → s'.board ≡ s.board
-    → s'.slot ≡ s.slot
-    → length s'.seen ≡ length s.seen → IsSeat b s'
-seat_stays b s s' seat board slot seen = record {
-  same = board ∙ seat.same;
-  own_slot = let a = seat.own_slot in let c = slot in omega arith;
-  size = seen ∙ seat.size;
-}
-
 module _ (table table' : TableId) (v v' : View) (same : table' ≡ table) where
   pub view_after_look : (slot word : ℕ) → v' ≡ after_look slot word v
       → seat_view table' v' ≡ with_look slot (stamp_of word) (seat_view table v)
