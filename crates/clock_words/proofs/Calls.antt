@@ -8,14 +8,15 @@ use Rattle.clock_words.specs.Mirrors.{IsMirror}
 use Rattle.clock_words.specs.Rule.{IsRaise}
 use Rattle.clock_words.specs.Seats.{BoardView, IsSeat, SeatView, clock_seen, due_seen, new_seat, new_seats, own_list, seat_view, with_fetch, with_join, with_look}
 use Rattle.clock_words.specs.Stories.{AreWithin, Lists, due, list_of, stamped_word}
-use Rattle.clock_words.specs.Views.{after_fetch, after_join, after_look, after_put, after_raise, greater_of, with_stop}
+use Rattle.clock_words.specs.Views.{after_fetch, after_join, after_look, after_put, after_raise, greater_of, newcomer, with_stop, zeros}
 use Rattle.clock_words.specs.declared.seat.BoardSeat.TheInside.{Inside}
 use Rattle.clock_words.specs.declared.story.StampedWord.{StampedWord}
+use Rattle.clock_words.specs.declared.view.Shape.{Shape}
 use Rattle.clock_words.specs.declared.view.View.{View}
 use Rattle.clock_words.proofs.Greater.{greater_length}
 use Rattle.clock_words.proofs.Rows.{as_many_next}
 use Rattle.clock_words.proofs.Stamps.{raised_is, stamps_rise}
-use Rattle.clock_words.proofs.Surface.{view_after_fetch, view_after_join, view_after_look, view_after_put, view_after_raise, view_with_stop}
+use Rattle.clock_words.proofs.Surface.{view_after_fetch, view_after_join, view_after_look, view_after_put, view_after_raise, view_of_new, view_with_stop}
 use Rattle.clock_words.proofs.Tables.{stamp_seen}
 
 -- a seat, what callers see of it, and the lists that its table was told
@@ -181,3 +182,10 @@ one_seat_more board seats seats' s slot before is e =
     e ∙ (ap (λ (l : List SeatView). l ++ s ∷ []) before
     ∙ (ap (λ (z : SeatView). new_seats board slot ++ z ∷ []) is
     ∙ ap (λ (n : ℕ). new_seats board n) next))
+
+-- what callers see of a seat that was handed out
+pub handed_seen : (table' table : TableId) (v : View) (story : Lists) (shape : Shape) (slot : ℕ)
+    → table' ≡ table → v ≡ newcomer story shape slot (zeros shape)
+    → seat_view table' v ≡ new_seat (record { table = table; shape = shape; story = story }) slot
+handed_seen table' table v story shape slot same e = ap (λ (t : TableId). seat_view t v) same
+    ∙ (ap (λ (w : View). seat_view table w) e ∙ view_of_new table story shape slot)

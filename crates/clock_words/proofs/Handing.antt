@@ -180,6 +180,16 @@ module _ {S : Type 0} (story : Lists) (shape : Shape) where
       → Splits (IsKept {S = S} story shape) seat v (after_handing v) (handed_view v)
   hands_out seat v role told some_left s k at = kept_by_handing s k seat v role told some_left at
 
+-- the maker of a new board, which has handed out some slots, hands out the next
+pub hands_out_next : {S : Type 0} (story : Lists) (shape : Shape) (seat slot : ℕ) (v : View)
+    → v ≡ record (maker story shape) { handed = slot } → slot < shape.slots
+    → Splits (IsKept {S = S} story shape) seat v (after_handing v) (handed_view v)
+hands_out_next {S} story shape seat slot v e lt =
+    let w : View = record (maker story shape) { handed = slot } in
+    let P : View → Type 0 = λ u. Splits (IsKept {S = S} story shape) seat u (after_handing u)
+    (handed_view u) in
+    subst P (sym e) (hands_out story shape seat w refl (record { lists = refl; sizes = refl }) lt)
+
 -- of two numbers at a place the greater one is no more than what both are no more than
 greater_below : (xs ys : List ℕ) (j n : ℕ) → slice_index xs j ≤ n → slice_index ys j ≤ n
     → slice_index (greater_of xs ys) j ≤ n

@@ -13,6 +13,7 @@ use ip_core::{List, OutOfMemory};
 use std::alloc::Global;
 
 /// As many zeros as a board of this shape has words.
+#[tactic(auto, using(crate::proofs::Apart::area_fits))]
 pub(crate) fn zero_words(alloc: Global, shape: Shape) -> Result<Vec<u64>, OutOfMemory>
     requires { IsShape shape.slots shape.area }
     ensures { IfOk result (λ words. words.items ≡ replicate (count_of shape) 0) }

@@ -27,6 +27,7 @@ fn clock_place(slot: u32) -> usize
 }
 
 /// The place of a word of a slot's area.
+#[tactic(auto, using(crate::proofs::Apart::area_fits))]
 fn area_place(shape: Shape, slot: u32, k: u32) -> usize
     requires sizes { IsShape shape.slots shape.area }
     requires slot { slot < shape.slots }
@@ -48,6 +49,7 @@ pub(crate) fn load_clock<S: Story>(words: &Words<S>, place: &mut Place, slot: u3
 }
 
 /// Loads words of a slot that are due below the clock seen.
+#[tactic(auto, using(crate::proofs::DueWords::due_within))]
 pub(crate) fn load_words<S: Story>(
     words: &Words<S>,
     place: &mut Place,

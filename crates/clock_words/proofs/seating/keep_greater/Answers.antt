@@ -1,12 +1,23 @@
 use Rattle.std.proofs.Common.{ℕ, ◌<◌, ◌≤◌, ◌≡◌, length, refl, sym, ap, ◌∙◌, arith}
+use Rattle.std.proofs.Math.ListN.{length-set}
 use Rattle.clock_words.proofs.Greater.{greater_all, greater_at}
 use Rattle.clock_words.proofs.Seen.{below_more}
 use Rattle.clock_words.proofs.seating.keep_greater.Goals as goal
 
 pub loop-slot-init : goal.loop-slot-init
-loop-slot-init c = record {
-  size = sym c.requires;
-  same = refl;
-  below =
-      λ k lt. absurd (omega arith);
+loop-slot-init c =
+    record { size = sym c.requires; same = refl; below = λ k lt. absurd (omega arith) }
+
+pub loop-slot-preserved : goal.loop-slot-preserved
+loop-slot-preserved c = record {
+  size = length-set c.loop-slot.seen.items _ _ ∙ c.loop-slot.invariant.size;
+  same = greater_at c.loop-slot.seen.items c.args.other.now c.loop-slot.slot
+      c.loop-slot.invariant.size ∙ c.loop-slot.invariant.same;
+  below = below_more c.loop-slot.seen.items c.args.other.now c.loop-slot.slot (omega arith)
+      c.loop-slot.invariant.below;
 }
+
+pub returns : goal.returns
+returns c =
+    sym (greater_all c.loop-slot.seen.items c.args.other.now c.loop-slot.invariant.size
+    (λ i lt. c.loop-slot.invariant.below i (omega arith))) ∙ c.loop-slot.invariant.same

@@ -1,11 +1,34 @@
-use Rattle.std.proofs.Common.{sym, refl, ap, ◌∙◌, arith}
-use Rattle.clock_words.proofs.Tables.{at_table, list_told, slot_known, slot_told, slot_within, within_of, within_told}
+use Rattle.std.proofs.Common.{ℕ, sym, refl, ap, ◌∙◌, subst, arith}
+use Rattle.clock_words.specs.declared.view.View.{View}
+use Rattle.clock_words.proofs.Calls.{look_later, look_seen, seat_after_look}
+use Rattle.clock_words.proofs.Surface.{mirror_after_look}
+use Rattle.clock_words.proofs.Tables.{at_table, slot_told}
 use Rattle.clock_words.proofs.board.Board.look.Goals as goal
 
-pub load_clock-requires-clause-seat : goal.load_clock-requires-clause-seat
-load_clock-requires-clause-seat g c = at_table _ _ _ _ _ _ _ _ c.self.invariant (sym c.self.view_is)
-    (sym c.seat.view_is) c.requires.seat c.seat.invariant.role
+pub load_clock-word-requires-clause-seat : goal.load_clock-word-requires-clause-seat
+load_clock-word-requires-clause-seat g c =
+    at_table _ _ _ _ _ _ _ _ c.self.invariant (sym c.self.view_is) (sym c.seat.view_is)
+    c.requires.seat c.seat.invariant.role
 
-pub load_clock-requires-clause-slot : goal.load_clock-requires-clause-slot
-load_clock-requires-clause-slot g c = slot_told _ _ _ _ _ _ c.self.invariant
-    (sym c.self.view_is) c.args.slot c.requires.slot
+pub load_clock-word-requires-clause-slot : goal.load_clock-word-requires-clause-slot
+load_clock-word-requires-clause-slot g c =
+    slot_told _ _ _ _ _ _ c.self.invariant (sym c.self.view_is) c.args.slot c.requires.slot
+
+pub invariant_of-seat : goal.invariant_of-seat
+invariant_of-seat g c =
+    mirror_after_look c.seat.inside _ c.args.slot c.load_clock-word.result c.seat.invariant
+    c.load_clock-word.ensures.found.view refl refl refl refl c.load_clock-word.ensures.found.count
+
+pub returns-clause-view : goal.returns-clause-view
+returns-clause-view g c =
+    look_seen _ _ _ _ _ c.load_clock-word.ensures.seat.0 c.seat.view_is c.args.slot
+    c.load_clock-word.result _ (ap (λ p. p.0) c.load_clock-word.ensures.found.view) c.stamp_of.ensures
+
+pub returns-clause-seat : goal.returns-clause-seat
+returns-clause-seat g c =
+    seat_after_look _ _ _ c.requires.seat c.args.slot c.stamp_of.result (returns-clause-view g c)
+
+pub returns-clause-later : goal.returns-clause-later
+returns-clause-later g c =
+    look_later _ _ _ c.args.slot c.load_clock-word.result _ c.seat.view_is
+    c.load_clock-word.ensures.found.later c.stamp_of.ensures
