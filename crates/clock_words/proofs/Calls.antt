@@ -1,7 +1,7 @@
 -- What the calls of a board ask of the steps on its table, and what callers see afterwards.
 use Rattle.std.proofs.Common.{ℕ, zero, suc, ◌+◌, ◌^◌, ◌<◌, ◌≤◌, ◌≡◌, Bool, List, [], ◌∷◌, ◌++◌, length, map, set, take, drop, slice_index, refl, sym, ap, ◌∙◌, subst, arith}
 use Rattle.std.proofs.Math.ListN.{length-set}
-use Rattle.std.proofs.lemmas.List.{length-map}
+use Rattle.std.proofs.lemmas.List.{length-map, length-replicate}
 use Rattle.atomic_table.specs.Seated.{TableId}
 use Rattle.clock_words.specs.Clocks.{IsStamp, raised_word, stamp_of}
 use Rattle.clock_words.specs.Mirrors.{IsMirror}
@@ -189,3 +189,9 @@ pub handed_seen : (table' table : TableId) (v : View) (story : Lists) (shape : S
     → seat_view table' v ≡ new_seat (record { table = table; shape = shape; story = story }) slot
 handed_seen table' table v story shape slot same e = ap (λ (t : TableId). seat_view t v) same
     ∙ (ap (λ (w : View). seat_view table w) e ∙ view_of_new table story shape slot)
+
+-- a seat that a new board hands out is one of it
+pub new_seat_is : (board : BoardView) (slot : ℕ) → slot < board.shape.slots
+    → IsSeat board (new_seat board slot)
+new_seat_is board slot lt =
+    record { same = refl; own_slot = lt; size = length-replicate board.shape.slots 0 }

@@ -1,6 +1,6 @@
 -- The board as it begins, a slot handed out, and a seat joined to another.
 use Rattle.std.proofs.Common.{ℕ, zero, suc, ◌+◌, ◌*◌, ◌<◌, ◌≤◌, ◌≡◌, ◌≢◌, ◌⊎◌, Bool, true, false, cond, eqb, max, ◌||◌, List, [], ◌∷◌, ◌++◌, length, set, get_or, replicate, map, slice_index, inl, inr, ⊎_elim, refl, sym, ap, ◌∙◌, subst, eq-eqb, ne_eqb, arith}
-use Rattle.std.proofs.Math.ListN.{length-set}
+use Rattle.std.proofs.lemmas.List.{length-replicate}
 use mathlib.Core.Option.{none, some, some-injective, some-ne-none}
 use mathlib.Core.Logic.{dite}
 use native.Mathlib.Decide.{ℕ_discrete}
@@ -17,11 +17,7 @@ use Rattle.clock_words.specs.declared.view.Shape.{Shape}
 use Rattle.clock_words.specs.declared.view.View.{View}
 use Rattle.clock_words.proofs.DueWords.{none_due_at_first}
 use Rattle.clock_words.proofs.Kept.{after_change, is_there, kept_by_load, mark_stays, slot_stays, view_learns, view_stays}
-
-all_zero : (n i : ℕ) → slice_index (replicate n 0) i ≡ 0
-all_zero zero i = refl
-all_zero (suc n) zero = refl
-all_zero (suc n) (suc i) = all_zero n i
+use Rattle.clock_words.proofs.Seen.{zeros_at}
 
 -- an item of a list with one more at its end is in the list, or is the last
 at_end : (l : List View) (a b : View) (j : ℕ) → get_elem? (l ++ a ∷ []) j ≡ some b
@@ -41,7 +37,7 @@ module _ (story : Lists) (shape : Shape) where
 
   slot_at_first : (slot : ℕ) → IsSlot story shape first_words 0 slot
   slot_at_first slot = let z : clock_in first_words slot ≡ 0 =
-      all_zero (word_count shape) (8 * slot + 8) in record {
+      zeros_at (word_count shape) (8 * slot + 8) in record {
         count = let P : ℕ → Type 0 = λ c. due_count c ≡ due (list_of story slot) (stamp_of c) in
             subst P (sym z) (sym (none_due_at_first (list_of story slot)));
         due_words = λ k lt. absurd (let c : due_count (clock_in first_words slot) ≡ 0 =
@@ -51,7 +47,7 @@ module _ (story : Lists) (shape : Shape) where
 
   maker_at_first : IsTrueView story shape first_words (λ _. 0) 0 0 0 (maker story shape)
   maker_at_first = record {
-    seen = λ slot lt. let a = all_zero shape.slots slot in omega arith;
+    seen = λ slot lt. let a = zeros_at shape.slots slot in omega arith;
     stop = λ is. absurd (let e : false ≡ true = is in cc);
     as_maker = λ _. record {
       told = record { lists = refl; sizes = refl };
@@ -62,10 +58,6 @@ module _ (story : Lists) (shape : Shape) where
     as_owner = λ is. absurd (let e : Maker ≡ Owner = is in cc);
   }
 
-  length_zeros : (n : ℕ) → length (replicate n 0) ≡ n
-  length_zeros zero = refl
-  length_zeros (suc n) = ap suc (length_zeros n)
-
   -- a new board keeps the rule
   pub kept_at_first : (S : Type 0) → IsKept {S = S} story shape
       (opening first_words [] (maker story shape))
@@ -73,13 +65,13 @@ module _ (story : Lists) (shape : Shape) where
     owner = λ _. 0;
     maker = 0;
     handed = 0;
-    size = length_zeros (word_count shape);
+    size = length-replicate (word_count shape) 0;
     most = omega arith;
     slots = λ slot _. slot_at_first slot;
     seats = λ j u e. let t = alone_at (maker story shape) u j e in
         let P : ℕ → View → Type 0 = λ i w. IsTrueView story shape first_words (λ _. 0) 0 0 i w in
         subst (λ (i : ℕ). P i u) (sym t.0) (subst (λ (w : View). P 0 w) t.1 maker_at_first);
-    called = λ above. absurd (let z = all_zero (word_count shape) 0 in omega arith);
+    called = λ above. absurd (let z = zeros_at (word_count shape) 0 in omega arith);
   }
 
 module _ {S : Type 0} (story : Lists) (shape : Shape) where

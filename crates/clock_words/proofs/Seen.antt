@@ -22,7 +22,8 @@ below_more xs ys i there below k lt = let n : ℕ = max (slice_index xs i) (slic
     (λ ne. let a : slice_index (set xs i n) k ≡ slice_index xs k = get_or-set_other xs i k n 0 ne in
     let b = below k (omega arith) in omega arith)
 
-zeros_at : (count slot : ℕ) → slice_index (replicate count 0) slot ≡ 0
+-- each item of a row of zeros
+pub zeros_at : (count slot : ℕ) → slice_index (replicate count 0) slot ≡ 0
 zeros_at zero slot = refl
 zeros_at (suc count) zero = refl
 zeros_at (suc count) (suc slot) = zeros_at count slot
