@@ -22,16 +22,14 @@ pub record IsOwning (story : Lists) (shape : Shape) (v : View) : Type 0 where
   pub told : IsTold story shape v
 
 -- a clock word that an owner may raise its own to: the one that stands there, or one of a later
--- stamp that counts the words
--- put, where all that are due below it are
+-- stamp that counts the words put, where all that are due below it are
 pub data IsRaise (list : List StampedWord) (v : View) (word : ℕ) : Type 0 where
   same : word ≡ v.own → IsRaise list v word
   later : stamp_of v.own < stamp_of word → due_count word ≡ v.written →
       due list (stamp_of word) ≤ v.written → IsRaise list v word
 
 -- A slot's clock word counts what is due at its stamp, and so many words of its area are the first
--- of its story. A slot that
--- was not handed out has clock 0.
+-- of its story. A slot that was not handed out has clock 0.
 pub record IsSlot (story : Lists) (shape : Shape) (words : List ℕ) (handed slot : ℕ) : Type 0 where
   pub count : due_count (clock_in words slot) ≡
       due (list_of story slot) (stamp_of (clock_in words slot))
@@ -40,8 +38,7 @@ pub record IsSlot (story : Lists) (shape : Shape) (words : List ℕ) (handed slo
   pub fresh : handed ≤ slot → clock_in words slot ≡ 0
 
 -- An owner is the only one of its slot, and knows its clock word. What it has put are the first
--- words of the slot's story, at
--- least those that are due, and their stamps are at most its clock.
+-- words of the slot's story, at least those that are due, and their stamps are at most its clock.
 pub record IsOwner (story : Lists) (shape : Shape) (words : List ℕ) (owner : ℕ → ℕ)
     (handed seat : ℕ) (v : View) : Type 0 where
   pub told : IsTold story shape v

@@ -18,8 +18,7 @@ pub record BoardView : Type 0 where
   pub story : Lists
 
 -- the board of a seat, the slot that it owns, its own clock, how many words it has put, of each
--- slot the clock last seen, the
--- count of looks and the count of words fetched, and its stop mark
+-- slot the clock last seen, the count of looks and the count of words fetched, and its stop mark
 pub record SeatView : Type 0 where
   pub board : BoardView
   pub slot : ℕ

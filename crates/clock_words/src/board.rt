@@ -21,8 +21,7 @@ use std::snapshot::Snapshot;
 /// the lists of its story.
 ///
 /// Each call that takes a seat has the condition that the seat is one of this board's. All but
-/// `new` take no memory, wait for
-/// nobody and refuse nothing.
+/// `new` take no memory, wait for nobody and refuse nothing.
 #[derive(Drop)]
 pub struct Board<S: Story> {
     story: S,
@@ -44,9 +43,8 @@ impl<S: Story> Model for Board<S> {
 
 impl<S: Story> Board<S> {
     /// A board for 1 to 64 slots with areas of at most 2^22 words, and its seats in the order of
-    /// their slots: seat i owns
-    /// slot i. No slot's list may be longer than the area. All clocks are 0, and no stop was
-    /// called.
+    /// their slots: seat i owns slot i. No slot's list may be longer than the area. All clocks are
+    /// 0, and no stop was called.
     pub fn new(
         alloc: Global,
         story: S,
@@ -92,8 +90,7 @@ impl<S: Story> Board<S> {
     }
 
     /// Loads words of a slot from a place on, which are due below the clock seen. They become the
-    /// story's words at these
-    /// places.
+    /// story's words at these places.
     pub fn fetch(&self, seat: &mut BoardSeat, slot: u32, from: u32, out: &mut [u64])
         requires seat { IsSeat self.now seat.old }
         requires slot { slot < self.now.shape.slots }
@@ -135,8 +132,7 @@ impl<S: Story> Board<S> {
     }
 
     /// Raises the own clock, by one step. The stamp is at least the own clock and below 2^41 - 1,
-    /// or it is `END_STAMP`, and
-    /// every own word that is due below it was put.
+    /// or it is `END_STAMP`, and every own word that is due below it was put.
     pub fn raise(&self, seat: &mut BoardSeat, stamp: u64)
         requires seat { IsSeat self.now seat.old }
         requires stamp { IsStamp stamp }
@@ -160,8 +156,7 @@ impl<S: Story> Board<S> {
     }
 
     /// Loads the stop word, sets the seat's stop mark where a stop was called, and says whether the
-    /// mark is set. A mark that
-    /// is set stays.
+    /// mark is set. A mark that is set stays.
     pub fn stop_seen(&self, seat: &mut BoardSeat) -> bool
         requires seat { IsSeat self.now seat.old }
         ensures seat { IsSeat self.now seat.new }

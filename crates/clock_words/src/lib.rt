@@ -2,9 +2,8 @@
 //! each slot.
 //!
 //! A board is one table of atomic words without a lock. Each slot is owned by one seat, which puts
-//! the slot's words and
-//! raises its clock. Any seat may look at a clock, and fetch the words that are due below the clock
-//! that it saw.
+//! the slot's words and raises its clock. Any seat may look at a clock, and fetch the words that
+//! are due below the clock that it saw.
 #![tactic(auto)]
 
 mod board;

@@ -6,10 +6,8 @@ use crate::steps::Place;
 use std::marker::Model;
 
 /// A seat of a board, which owns one of its slots. Contracts see the board, the slot, its own
-/// clock, how many words it has
-/// put, of each slot the clock last seen, how often it was looked at and how many of its words were
-/// fetched, and the stop
-/// mark.
+/// clock, how many words it has put, of each slot the clock last seen, how often it was looked at
+/// and how many of its words were fetched, and the stop mark.
 #[derive(Drop)]
 pub struct BoardSeat {
     pub(crate) slot: u32,

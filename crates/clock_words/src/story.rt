@@ -11,8 +11,8 @@ pub struct StampedWord {
 }
 
 /// What the slots of a board put, known to contracts alone: for each slot one finite list of words
-/// with stamps that don't
-/// fall. The words of a slot that are due below a stamp are those in front with a smaller one.
+/// with stamps that don't fall. The words of a slot that are due below a stamp are those in front
+/// with a smaller one.
 pub trait Story {
     ghost use Rattle.clock_words.specs.Stories.{AreRising, Lists};
 

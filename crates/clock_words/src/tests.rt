@@ -164,8 +164,7 @@ fn puts_all(board: &Board<Numbers>, mut seat: BoardSeat)
 }
 
 /// Fetches all that is due of slot 0 until it has ended, and says whether each time there were the
-/// first numbers, and all of
-/// them at the end.
+/// first numbers, and all of them at the end.
 fn sees_fronts(board: &Board<Numbers>, mut seat: BoardSeat) -> bool
     requires story { board.now.story ≡ number_lists }
     requires shape { board.now.shape.slots ≡ 2 }

@@ -1,7 +1,8 @@
-use Rattle.std.proofs.Common.{ℕ, sym, refl, ap, ◌∙◌, subst, arith}
+use Rattle.std.proofs.Common.{ℕ, length, sym, refl, ap, ◌∙◌, subst, arith}
 use Rattle.clock_words.specs.declared.view.View.{View}
+use Rattle.clock_words.specs.Seats.{SeatView}
 use Rattle.clock_words.proofs.Calls.{look_later, look_seen, seat_after_look}
-use Rattle.clock_words.proofs.Surface.{mirror_after_look}
+use Rattle.clock_words.proofs.Surface.{as_many_kept, mirror_after_look}
 use Rattle.clock_words.proofs.Tables.{at_table, slot_told}
 use Rattle.clock_words.proofs.board.Board.look.Goals as goal
 
@@ -13,6 +14,12 @@ load_clock-word-requires-clause-seat g c =
 pub load_clock-word-requires-clause-slot : goal.load_clock-word-requires-clause-slot
 load_clock-word-requires-clause-slot g c =
     slot_told _ _ _ _ _ _ c.self.invariant (sym c.self.view_is) c.args.slot c.requires.slot
+
+pub index_mut-requires : goal.index_mut-requires
+index_mut-requires g c =
+    let kept = as_many_kept c.seat.inside c.seat.invariant in
+    let seen = ap (λ (z : SeatView). length z.seen) c.seat.view_is in
+    let size = c.requires.seat.size in omega arith
 
 pub invariant_of-seat : goal.invariant_of-seat
 invariant_of-seat g c =
