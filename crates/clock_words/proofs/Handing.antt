@@ -5,13 +5,13 @@ use mathlib.Core.Option.{none, some, some-injective, some-ne-none}
 use mathlib.Core.Logic.{dite}
 use native.Mathlib.Decide.{ℕ_discrete}
 use lib.ListN.{get_elem?}
-use Rattle.atomic_table.specs.Table.{Joins, Splits, State, opening}
+use Rattle.atomic_table.specs.Table.{Joins, Me, Splits, State, opening}
 use Rattle.atomic_table.proofs.Lists.{at_longer, at_set, set_here, set_else}
 use Rattle.clock_words.specs.Clocks.{due_count, stamp_of}
 use Rattle.clock_words.specs.Places.{area_in, clock_in, stop_in, word_count}
 use Rattle.clock_words.specs.Rule.{HasMark, IsKept, IsMaker, IsOwner, IsOwning, IsSlot, IsTold, IsTrueView}
 use Rattle.clock_words.specs.Stories.{Lists, due, list_of}
-use Rattle.clock_words.specs.Views.{after_handing, after_join, greater_of, handed_view, maker, spent}
+use Rattle.clock_words.specs.Views.{after_handing, after_join, greater_of, handed_view, maker, newcomer, spent, zeros}
 use Rattle.clock_words.specs.declared.view.Role.TheVariants.{Maker, Owner, Spent}
 use Rattle.clock_words.specs.declared.view.Shape.{Shape}
 use Rattle.clock_words.specs.declared.view.View.{View}
@@ -181,6 +181,19 @@ hands_out_next {S} story shape seat slot v e lt =
     let P : View → Type 0 = λ u. Splits (IsKept {S = S} story shape) seat u (after_handing u)
     (handed_view u) in
     subst P (sym e) (hands_out story shape seat w refl (record { lists = refl; sizes = refl }) lt)
+
+-- the maker after it, and the seat that was handed out
+pub maker_after : {S : Type 0} (story : Lists) (shape : Shape) (slot : ℕ) (m m' : Me S View)
+    → m ≡ (record (maker story shape) { handed = slot }, []) → m' ≡ (after_handing m.0, m.1)
+    → m' ≡ (record (maker story shape) { handed = slot + 1 }, [])
+maker_after {S} story shape slot m m' before e =
+    e ∙ ap (λ (n : Me S View). let k : Me S View = (after_handing n.0, n.1) in k) before
+
+pub seat_after : {S : Type 0} (story : Lists) (shape : Shape) (slot : ℕ) (m m' : Me S View)
+    → m ≡ (record (maker story shape) { handed = slot }, []) → m' ≡ (handed_view m.0, [])
+    → m' ≡ (newcomer story shape slot (zeros shape), [])
+seat_after {S} story shape slot m m' before e =
+    e ∙ ap (λ (n : Me S View). let k : Me S View = (handed_view n.0, []) in k) before
 
 -- of two numbers at a place the greater one is no more than what both are no more than
 greater_below : (xs ys : List ℕ) (j n : ℕ) → slice_index xs j ≤ n → slice_index ys j ≤ n
