@@ -19,6 +19,14 @@ use Rattle.clock_words.proofs.Loads.{asks, fetches, looks}
 use Rattle.clock_words.proofs.Rows.{HasItem, fetch_again, next_put, put_again}
 use Rattle.clock_words.proofs.Writes.{calls, puts, raises}
 
+-- what a store of the next own word tells
+pub put_told : {S : Type 0} (i : ℕ) (entry place : Seat S View) (m' : Me S View)
+    → place.me ≡ (after_put i entry.me.0, entry.me.1) → m' ≡ (after_put 1 place.me.0, place.me.1)
+    → m' ≡ (after_put (i + 1) entry.me.0, entry.me.1)
+put_told {S} i entry place m' me e =
+    e ∙ (ap (λ (m : Me S View). let n : Me S View = (after_put 1 m.0, m.1) in n) me
+    ∙ ap (λ (v : View). let n : Me S View = (v, entry.me.1) in n) (put_again i entry.me.0))
+
 module _ {S : Type 0} (story : Lists) (table : TableId) (place : Seat S View) where
   pub look_asked : (shape : Shape) (slot word : ℕ) → IsAtTable story shape table place
       → slot < shape.slots
@@ -152,14 +160,6 @@ module _ {S : Type 0} (story : Lists) (table : TableId) (place : Seat S View) wh
         subst R (sym me) (puts story shape within table.slots place.id
             (after_put i v, entry.me.1) x owning short (is ∙ item'.word_is) (omega arith)),
       ))
-
-  -- what a store of the next own word tells
-  pub put_told : (i : ℕ) (entry : Seat S View) (m' : Me S View)
-      → place.me ≡ (after_put i entry.me.0, entry.me.1) → m' ≡ (after_put 1 place.me.0, place.me.1)
-      → m' ≡ (after_put (i + 1) entry.me.0, entry.me.1)
-  put_told i entry m' me e =
-      e ∙ (ap (λ (m : Me S View). let n : Me S View = (after_put 1 m.0, m.1) in n) me
-      ∙ ap (λ (v : View). let n : Me S View = (v, entry.me.1) in n) (put_again i entry.me.0))
 
   pub raise_asked : (shape : Shape) (slot word n : ℕ) → IsAtTable story shape table place
       → AreWithin shape.area story

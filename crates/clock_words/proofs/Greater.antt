@@ -7,13 +7,14 @@ use Rattle.clock_words.specs.Views.{greater_of}
 use Rattle.clock_words.proofs.Stamps.{stamps_rise}
 
 -- taking the greater at one place changes nothing of the greater ones
-pub greater_at : (xs ys : List ℕ) (i : ℕ) → length xs ≡ length ys
-    → greater_of (set xs i (max (slice_index xs i) (slice_index ys i))) ys ≡ greater_of xs ys
-greater_at [] ys i e = refl
-greater_at (x ∷ xs) [] i e = absurd (omega arith)
-greater_at (x ∷ xs) (y ∷ ys) zero e = ap (λ (n : ℕ). n ∷ greater_of xs ys) (omega arith)
-greater_at (x ∷ xs) (y ∷ ys) (suc i) e = ap (λ (l : List ℕ). max x y ∷ l)
-    (greater_at xs ys i (omega arith))
+pub greater_at : (xs ys : List ℕ) (i m : ℕ) → length xs ≡ length ys
+    → m ≡ max (slice_index xs i) (slice_index ys i)
+    → greater_of (set xs i m) ys ≡ greater_of xs ys
+greater_at [] ys i m e is = refl
+greater_at (x ∷ xs) [] i m e is = absurd (omega arith)
+greater_at (x ∷ xs) (y ∷ ys) zero m e is = ap (λ (n : ℕ). n ∷ greater_of xs ys) (omega arith)
+greater_at (x ∷ xs) (y ∷ ys) (suc i) m e is =
+    ap (λ (l : List ℕ). max x y ∷ l) (greater_at xs ys i m (omega arith) is)
 
 -- where nothing is greater in the other row, the greater ones are the row
 pub greater_all : (xs ys : List ℕ) → length xs ≡ length ys

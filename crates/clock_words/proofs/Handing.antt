@@ -74,6 +74,13 @@ module _ (story : Lists) (shape : Shape) where
     called = λ above. absurd (let z = zeros_at (word_count shape) 0 in omega arith);
   }
 
+pub kept_at_start : (S : Type 0) (story : Lists) (shape : Shape) (words : List ℕ)
+    → words ≡ replicate (word_count shape) 0
+    → IsKept {S = S} story shape (opening words [] (maker story shape))
+kept_at_start S story shape words e =
+    subst (λ (l : List ℕ). IsKept {S = S} story shape (opening l [] (maker story shape))) (sym e)
+    (kept_at_first story shape S)
+
 module _ {S : Type 0} (story : Lists) (shape : Shape) where
   -- the maker hands out the next slot
   module _ (s : State S View) (k : IsKept story shape s) (seat : ℕ) (v : View)

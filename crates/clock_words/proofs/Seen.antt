@@ -10,16 +10,16 @@ use Rattle.clock_words.specs.Stories.{Lists, due, list_of}
 use Rattle.clock_words.proofs.DueWords.{none_due_at_first}
 
 -- a row after the greater number was taken at a place is below nowhere before it
-pub below_more : (xs ys : List ℕ) (i : ℕ) → i < length xs
+pub below_more : (xs ys : List ℕ) (i m : ℕ) → i < length xs
+    → m ≡ max (slice_index xs i) (slice_index ys i)
     → ((k : ℕ) → k < i → slice_index ys k ≤ slice_index xs k)
-    → (k : ℕ) → k < i + 1 → slice_index ys k ≤ slice_index
-    (set xs i (max (slice_index xs i) (slice_index ys i))) k
-below_more xs ys i there below k lt = let n : ℕ = max (slice_index xs i) (slice_index ys i) in
-    dite (ℕ_discrete k i)
-    (λ e. let P : ℕ → Type 0 = λ j. slice_index ys j ≤ slice_index (set xs i n) j in
-    let a : slice_index (set xs i n) i ≡ n = get_or-set_same xs i n 0 there in
+    → (k : ℕ) → k < i + 1 → slice_index ys k ≤ slice_index (set xs i m) k
+below_more xs ys i m there is below k lt = dite (ℕ_discrete k i)
+    (λ e. let P : ℕ → Type 0 = λ j. slice_index ys j ≤ slice_index (set xs i m) j in
+    let a : slice_index (set xs i m) i ≡ m = get_or-set_same xs i m 0 there in
     subst P (sym e) (omega arith))
-    (λ ne. let a : slice_index (set xs i n) k ≡ slice_index xs k = get_or-set_other xs i k n 0 ne in
+    (λ ne. let a : slice_index (set xs i m) k ≡ slice_index xs k =
+    get_or-set_other xs i k m 0 ne in
     let b = below k (omega arith) in omega arith)
 
 -- each item of a row of zeros

@@ -141,8 +141,9 @@ impl<S: Story> Board<S> {
         ensures seat { IsSeat self.now seat.new }
         ensures view { seat.new ≡ record seat.old { own = stamp } }
     {
+        let words = &self.table.shared;
         let word = raised_word(seat.own, seat.written, stamp);
-        raise_clock(&self.table.shared, &mut seat.place, seat.slot, word);
+        raise_clock(words, &mut seat.place, seat.slot, word);
         seat.own = word;
     }
 
@@ -174,10 +175,9 @@ impl<S: Story> Board<S> {
         ensures seat { IsSeat self.now seat.new }
         ensures view { seat.new ≡ with_join seat.old other }
     {
+        let words = &self.table.shared;
         let BoardSeat { seen, place, .. } = other;
         keep_greater(&mut seat.seen, seen.as_slice());
-        self.table
-            .shared
-            .join_seat::<TakeIn>(&mut seat.place, place);
+        words.join_seat::<TakeIn>(&mut seat.place, place);
     }
 }

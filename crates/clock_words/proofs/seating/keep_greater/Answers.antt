@@ -12,8 +12,9 @@ pub loop-slot-preserved : goal.loop-slot-preserved
 loop-slot-preserved c = record {
   size = length-set c.loop-slot.seen.items _ _ ∙ c.loop-slot.invariant.size;
   same = greater_at c.loop-slot.seen.items c.args.other.now c.loop-slot.slot
-      c.loop-slot.invariant.size ∙ c.loop-slot.invariant.same;
-  below = below_more c.loop-slot.seen.items c.args.other.now c.loop-slot.slot (omega arith)
+      c.max.result c.loop-slot.invariant.size (omega arith) ∙ c.loop-slot.invariant.same;
+  below = below_more c.loop-slot.seen.items c.args.other.now c.loop-slot.slot c.max.result
+      (omega arith) (omega arith)
       c.loop-slot.invariant.below;
 }
 

@@ -37,5 +37,5 @@ returns-clause-seat g c =
 
 pub returns-clause-later : goal.returns-clause-later
 returns-clause-later g c =
-    look_later _ _ _ c.args.slot c.load_clock-word.result _ c.seat.view_is
+    look_later c.seat.inside.place.table_id c.seat.inside.place.me.0 _ c.args.slot c.load_clock-word.result _ c.seat.view_is
     c.load_clock-word.ensures.found.later c.stamp_of.ensures

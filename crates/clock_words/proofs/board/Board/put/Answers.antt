@@ -19,7 +19,7 @@ store_words-requires-clause-shape g c = c.self.invariant.told_shape
 
 pub store_words-requires-clause-slot : goal.store_words-requires-clause-slot
 store_words-requires-clause-slot g c =
-    let within = slot_within _ _ _ _ _ _ _ _ c.self.invariant (sym c.self.view_is)
+    let within = slot_within _ _ _ _ _ c.seat.inside.place _ _ c.self.invariant (sym c.self.view_is)
     (sym c.seat.view_is) c.requires.seat in
     let same = c.seat.invariant.slot in (same, omega arith)
 
@@ -34,10 +34,9 @@ store_words-requires-clause-next g c =
 
 pub invariant_of-seat : goal.invariant_of-seat
 invariant_of-seat g c =
-    let at = store_words-requires-clause-seat g c in
     mirror_after_put c.seat.inside _ _ c.seat.invariant
-    (put_most c.seat.inside _ _ c.seat.invariant c.seat.view_is at.owning.told.lists
-    c.args.words.now c.requires.next) c.store_words.ensures.view refl refl refl refl
+    (put_most c.seat.inside _ _ c.seat.invariant c.seat.view_is refl c.args.words.now
+    c.requires.next) c.store_words.ensures.view refl refl refl refl
 
 pub returns-clause-view : goal.returns-clause-view
 returns-clause-view g c =

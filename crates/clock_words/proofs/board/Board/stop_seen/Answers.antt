@@ -4,10 +4,11 @@ use Rattle.clock_words.proofs.Surface.{mirror_with_stop}
 use Rattle.clock_words.proofs.Tables.{at_table}
 use Rattle.clock_words.proofs.board.Board.stop_seen.Goals as goal
 
-pub load_stop-requires-clause-seat : goal.load_stop-requires-clause-seat
-load_stop-requires-clause-seat g c =
-    at_table _ _ _ _ _ _ _ _ c.self.invariant (sym c.self.view_is) (sym c.seat.view_is)
-    c.requires.seat c.seat.invariant.role
+pub load_stop-requires : goal.load_stop-requires
+load_stop-requires g c = record {
+  seat = at_table _ _ _ _ _ c.seat.inside.place _ _ c.self.invariant (sym c.self.view_is)
+      (sym c.seat.view_is) c.requires.seat c.seat.invariant.role;
+}
 
 pub invariant_of-seat : goal.invariant_of-seat
 invariant_of-seat g c =
