@@ -12,6 +12,13 @@ use crate::view::Shape;
 use ip_core::{List, OutOfMemory};
 use std::alloc::Global;
 
+/// So many zeros.
+fn zeros(alloc: Global, count: usize) -> Result<Vec<u64>, OutOfMemory>
+    ensures { IfOk result (λ made. made.items ≡ replicate count 0) }
+{
+    Ok(vec![in alloc; 0; count]?)
+}
+
 /// As many zeros as a board of this shape has words.
 #[tactic(auto, using(crate::proofs::Apart::area_fits))]
 pub(crate) fn zero_words(alloc: Global, shape: Shape) -> Result<Vec<u64>, OutOfMemory>
@@ -19,7 +26,7 @@ pub(crate) fn zero_words(alloc: Global, shape: Shape) -> Result<Vec<u64>, OutOfM
     ensures { IfOk result (λ words. words.items ≡ replicate (count_of shape) 0) }
 {
     let slots = shape.slots as usize;
-    Ok(vec![in alloc; 0; 8 * slots + 8 + slots * shape.area as usize]?)
+    zeros(alloc, 8 * slots + 8 + slots * shape.area as usize)
 }
 
 /// The seats of all slots, in their order.
@@ -42,7 +49,7 @@ pub(crate) fn hand_out<S: Story>(
 {
     let mut seats = List::new(alloc);
     for slot in 0..slots {
-        let seen = vec![in alloc; 0; slots as usize]?;
+        let seen = zeros(alloc, slots as usize)?;
         let place = words.split_seat::<HandOut>(&mut maker);
         seats.push(BoardSeat {
             slot,

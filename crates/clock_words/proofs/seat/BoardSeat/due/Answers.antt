@@ -15,6 +15,7 @@ returns c =
     let kept = as_many_kept c.self.inside c.self.invariant in
     let seen = ap (λ (z : SeatView). length z.seen) c.self.view_is in
     c.due_count.ensures
-    ∙ (ap due_count (get_or_read _ _ _ (omega arith) c.index.ensures 0)
+    ∙ (ap due_count (get_or_read c.self.inside.seen.items c.args.slot c.index.result.now
+    (omega arith) c.index.ensures 0)
     ∙ (count_of_seen c.self.inside c.args.slot c.self.invariant
     ∙ ap (λ (z : SeatView). due_seen z c.args.slot) c.self.view_is))
