@@ -1,0 +1,15 @@
+pub mod Apart
+pub mod Asked
+pub mod Calls
+pub mod DueWords
+pub mod Greater
+pub mod Handing
+pub mod Kept
+pub mod Loads
+pub mod Rows
+pub mod SampleRows
+pub mod Seen
+pub mod Stamps
+pub mod Surface
+pub mod Tables
+pub mod Writes

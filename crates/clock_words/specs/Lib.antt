@@ -1,0 +1,9 @@
+pub mod Clocks
+pub mod Mirrors
+pub mod Places
+pub mod Rule
+pub mod Samples
+pub mod Seats
+pub mod Steps
+pub mod Stories
+pub mod Views
