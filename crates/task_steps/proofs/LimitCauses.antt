@@ -171,7 +171,8 @@ after_point_quiet m task worker p a cutoff found h =
     let col = widest p.bounds in
     let mid = middle p.bounds col in
     by_test IsQuiet (int_le cutoff a.bound) _ _
-    (λ t. closing_quiet task.node worker.splits found p (Bound (pairs_of (length m.rows) a.mults)) h)
+    (λ t. closing_quiet task.node worker.splits found p
+    (Bound (pairs_of (length m.rows) a.mults)) h)
     (λ t. splitting_quiet task worker found cutoff p.work col mid
     (kept_child task.nodes (int_at a.point col) mid) a.bound h)
 

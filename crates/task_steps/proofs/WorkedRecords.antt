@@ -1,10 +1,9 @@
 -- The records of a search worked out by hand.
-use Rattle.std.proofs.Common.{◌≡◌, List, [], ◌∷◌, pos, true, Some, None, refl}
+use Rattle.std.proofs.Common.{◌≡◌, [], ◌∷◌, pos, true, Some, None, refl}
 use Rattle.ip_core.specs.declared.leaf.Closing.TheVariants.{Conflict}
 use Rattle.ip_core.specs.declared.leaf.Leaf.{Leaf}
 use Rattle.ip_core.specs.declared.row_ref.RowRef.TheVariants.{Model}
 use Rattle.work_stamp.specs.declared.entry.Entry.TheVariants.{Start, Split, Closed, Done}
-use Rattle.work_stamp.specs.declared.stamped.KeyedEntry.{KeyedEntry}
 use Rattle.leaf_truth.specs.Laws.{leaf_of}
 use Rattle.leaf_truth.specs.Leaves.{leaf_reason}
 use Rattle.leaf_truth.specs.declared.reason.LeafReason.TheVariants.{BadConflict}
