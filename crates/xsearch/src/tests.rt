@@ -568,7 +568,7 @@ status infeasible
 ";
 
 /// The exit status of a run over the file `m`, and the file `l` afterwards.
-fn logged(alloc: Global, line: &str, model: &[u8]) -> Result<(u8, Text), OutOfMemory> {
+fn log_after(alloc: Global, line: &str, model: &[u8]) -> Result<(u8, Text), OutOfMemory> {
     let mut shelf = SureShelf::new(alloc);
     shelf.set(text(alloc, b"m")?, List::of(Vec::from_slice(alloc, model)?))?;
     let mut out = SureSink::new(alloc);
@@ -582,7 +582,7 @@ fn logged(alloc: Global, line: &str, model: &[u8]) -> Result<(u8, Text), OutOfMe
 fn first_other_log(alloc: Global, cases: &[Logged]) -> Result<Option<usize>, OutOfMemory> {
     for i in 0..cases.len() {
         let case = &cases[i];
-        let (status, log) = logged(alloc, case.words, case.model)?;
+        let (status, log) = log_after(alloc, case.words, case.model)?;
         if status != case.status || log.as_slice() != case.log {
             return Ok(Some(i));
         }
@@ -667,7 +667,7 @@ fn a_point_too_long_for_the_store(rt: HostRuntime) -> Result<(), Fail> {
     assert!(rt; is_stored_answer(alloc, 46, 4, answer)?);
     let file = free_columns(alloc, 46)?;
     let line = "solve m --tasks=1 --store=64 --log=l";
-    let (_, log) = logged(alloc, line, file.as_bytes())?;
+    let (_, log) = log_after(alloc, line, file.as_bytes())?;
     assert!(rt; has(log.as_slice(), b"\n0 0 start 0\n14 0 halt\nend 0 "));
     Ok(())
 }
