@@ -1,16 +1,20 @@
 -- How what was found becomes the end of a run.
-use Rattle.std.proofs.Common.{◌≡◌, ℕ, List, Result, Ok, Err, refl, sym, ap, subst}
+use Rattle.std.proofs.Common.{◌≡◌, ◌∙◌, ℕ, List, Result, Ok, Err, refl, sym, ap, subst}
 use Rattle.mps_model.specs.declared.model.MpsModel.{MpsModel}
 use Rattle.xsearch.specs.ModelFiles.{IsFileFailure, IsFileJob, IsModelFile, OfModel, NoModel}
 use Rattle.xsearch.specs.Runs.{Ends}
 use Rattle.xsearch.specs.Shelves.{IsOneRead}
-use Rattle.xsearch.specs.Writes.{IsWritten, AllWritten}
+use Rattle.xsearch.specs.Writes.{IsWritten, AllWritten, OneFailed}
 use Rattle.xsearch_words.proofs.OutputWrites.{none_written}
+use Rattle.xsearch_words.specs.Outputs.{AreLeftBy, IsFailedWrite}
 use Rattle.xsearch_words.specs.Shelf.{HasNoFault, ShelfState}
 use Rattle.xsearch_words.specs.Sink.{SinkState}
+use Rattle.xsearch_words.specs.declared.error.OutputError.{OutputError}
+use Rattle.xsearch_words.specs.declared.error.OutputError.TheVariants.{Failed}
+use Rattle.xsearch_words.specs.declared.output.OutputFile.{OutputFile}
 use Rattle.xsearch.specs.declared.output.Output.{Output}
 use Rattle.xsearch.specs.declared.output.Failure.{Failure}
-use Rattle.xsearch.specs.declared.output.Failure.TheVariants.{ReadFailed}
+use Rattle.xsearch.specs.declared.output.Failure.TheVariants.{ReadFailed, WriteFailed}
 
 abbrev failed : (A : Type 0) → Failure → Result A Failure
 failed A failure = Err failure
@@ -52,6 +56,14 @@ of_no_model next old new name failure cause read quiet = record {
 -- a failure has no files
 pub nothing_to_write : (failure : Failure) (state : ShelfState) → IsWritten (Err failure) state state (Err failure)
 nothing_to_write failure state = AllWritten refl (none_written state)
+
+-- a write that failed ends what was to be put with the file's place
+pub one_failed : {A : Type 0} (output : Output) (files : List OutputFile) (left : Result A OutputError) (error : OutputError) (place : ℕ) (old new : ShelfState)
+    → AreLeftBy left files old new → files ≡ output.files → left ≡ Err error → error ≡ Failed place
+    → IsWritten (Ok output) old new (Err (WriteFailed place))
+one_failed {A} output files left error place old new by same is names =
+    let at : left ≡ Err (Failed place) = is ∙ ap (λ (e : OutputError). Err e) names in
+    OneFailed place refl (subst (λ (fs : List OutputFile). IsFailedWrite place fs old new) same (subst (λ (l : Result A OutputError). AreLeftBy l files old new) at by))
 
 -- a run that ends with what it came to has its cause
 pub with_cause : (P : Result Output Failure → Type 0) (ended : Result Output Failure) (old new : SinkState) (code : ℕ) → P ended → Ends (λ e. e ≡ ended) old new code → Ends P old new code
