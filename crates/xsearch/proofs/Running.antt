@@ -4,17 +4,18 @@ use Rattle.mps_model.specs.declared.model.MpsModel.{MpsModel}
 use Rattle.xsearch.specs.ModelFiles.{IsFileFailure, IsFileJob, IsModelFile, OfModel, NoModel}
 use Rattle.xsearch.specs.Runs.{Ends}
 use Rattle.xsearch.specs.Shelves.{IsOneRead}
-use Rattle.xsearch.specs.Writes.{IsWritten, AllWritten, OneFailed}
+use Rattle.xsearch.specs.Writes.{IsWritten, AllWritten, OneFailed, OneUnwritten, write_failure}
 use Rattle.xsearch_words.proofs.OutputWrites.{none_written}
-use Rattle.xsearch_words.specs.Outputs.{AreLeftBy, IsFailedWrite}
+use Rattle.xsearch_words.specs.Outputs.{AreLeftBy}
 use Rattle.xsearch_words.specs.Shelf.{HasNoFault, ShelfState}
 use Rattle.xsearch_words.specs.Sink.{SinkState}
 use Rattle.xsearch_words.specs.declared.error.OutputError.{OutputError}
 use Rattle.xsearch_words.specs.declared.error.OutputError.TheVariants.{Failed}
+use Rattle.xsearch_words.specs.declared.error.OutputError.TheVariants as unwritten
 use Rattle.xsearch_words.specs.declared.output.OutputFile.{OutputFile}
 use Rattle.xsearch.specs.declared.output.Output.{Output}
 use Rattle.xsearch.specs.declared.output.Failure.{Failure}
-use Rattle.xsearch.specs.declared.output.Failure.TheVariants.{ReadFailed, WriteFailed}
+use Rattle.xsearch.specs.declared.output.Failure.TheVariants.{ReadFailed}
 
 abbrev failed : (A : Type 0) → Failure → Result A Failure
 failed A failure = Err failure
@@ -57,13 +58,26 @@ of_no_model next old new name failure cause read quiet = record {
 pub nothing_to_write : (failure : Failure) (state : ShelfState) → IsWritten (Err failure) state state (Err failure)
 nothing_to_write failure state = AllWritten refl (none_written state)
 
--- a write that failed ends what was to be put with the file's place
-pub one_failed : {A : Type 0} (output : Output) (files : List OutputFile) (left : Result A OutputError) (error : OutputError) (place : ℕ) (old new : ShelfState)
-    → AreLeftBy left files old new → files ≡ output.files → left ≡ Err error → error ≡ Failed place
-    → IsWritten (Ok output) old new (Err (WriteFailed place))
-one_failed {A} output files left error place old new by same is names =
-    let at : left ≡ Err (Failed place) = is ∙ ap (λ (e : OutputError). Err e) names in
-    OneFailed place refl (subst (λ (fs : List OutputFile). IsFailedWrite place fs old new) same (subst (λ (l : Result A OutputError). AreLeftBy l files old new) at by))
+abbrev error_of : (A : Type 0) → OutputError → Result A OutputError
+error_of A error = Err error
+
+by_error : (A : Type 0) (output : Output) (error : OutputError) (old new : ShelfState)
+    → AreLeftBy (error_of A error) output.files old new
+    → IsWritten (Ok output) old new (Err (write_failure error))
+by_error A output (Failed place) old new left = OneFailed place refl left
+by_error A output unwritten.Memory old new left = OneUnwritten refl left
+
+-- writes that ended with an error end what was to be put
+pub not_written : {A : Type 0} (output : Output) (files : List OutputFile) (left : Result A OutputError)
+    (error : OutputError) (failure : Failure) (old new : ShelfState) → AreLeftBy left files old new
+    → files ≡ output.files → left ≡ Err error → failure ≡ write_failure error
+    → IsWritten (Ok output) old new (Err failure)
+not_written {A} output files left error failure old new by same is fails =
+    let ended : AreLeftBy (error_of A error) output.files old new =
+        subst (λ (fs : List OutputFile). AreLeftBy (error_of A error) fs old new) same
+        (subst (λ (l : Result A OutputError). AreLeftBy l files old new) is by) in
+    subst (λ (f : Failure). IsWritten (Ok output) old new (Err f)) (sym fails)
+    (by_error A output error old new ended)
 
 -- a run that ends with what it came to has its cause
 pub with_cause : (P : Result Output Failure → Type 0) (ended : Result Output Failure) (old new : SinkState) (code : ℕ) → P ended → Ends (λ e. e ≡ ended) old new code → Ends P old new code

@@ -6,6 +6,9 @@ use Rattle.task_steps.specs.declared.answer.Status.{Status}
 use Rattle.xsearch_words.specs.Outputs.{AreWritten, AreWrittenInPart, IsFailedWrite}
 use Rattle.xsearch_words.specs.Shelf.{ShelfState}
 use Rattle.xsearch_words.specs.declared.job.SolveJob.{SolveJob}
+use Rattle.xsearch_words.specs.declared.error.OutputError.{OutputError}
+use Rattle.xsearch_words.specs.declared.error.OutputError.TheVariants.{Failed}
+use Rattle.xsearch_words.specs.declared.error.OutputError.TheVariants as unwritten
 use Rattle.xsearch_words.specs.declared.output.OutputFile.{OutputFile}
 use Rattle.xsearch.specs.Answer.{status_word}
 use Rattle.xsearch.specs.Searches.{limits_of, settings_of}
@@ -27,6 +30,11 @@ solve_files asked history status = named_file asked.log
 abbrev pub files_of : Result Output Failure → List OutputFile
 files_of (Ok output) = output.files
 files_of (Err failure) = []
+
+-- what writes come to that ended with this error
+abbrev pub write_failure : OutputError → Failure
+write_failure (Failed place) = WriteFailed place
+write_failure unwritten.Memory = Memory
 
 -- What a run comes to by the writes of the files of what was found: to that, where all are whole;
 -- to a failure that names a file's place, where its write failed and those before it are whole; or

@@ -3,8 +3,8 @@ ghost use Rattle.xsearch.specs.Answer.{HasOneEach, answer_text as answer_text_of
 
 use ip_core::{Model, Name, OutOfMemory, Text, decimal};
 use itoa::Buffer;
-use task_steps::{Answer, Best, Status};
 use std::alloc::Global;
+use task_steps::{Answer, Best, Status};
 
 /// The text of an answer: its status, and unless no point is feasible the point and its objective.
 pub fn answer_text(alloc: Global, model: &Model, answer: &Answer) -> Result<Text, OutOfMemory>

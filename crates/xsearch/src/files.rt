@@ -1,5 +1,5 @@
-ghost use Rattle.std.specs.Prelude.{Ok};
-ghost use Rattle.xsearch.specs.Writes.{IsWritten};
+ghost use Rattle.std.specs.Prelude.{◌≡◌, Ok};
+ghost use Rattle.xsearch.specs.Writes.{IsWritten, write_failure as write_failure_of};
 
 use crate::output::{Failure, Output};
 use std::alloc::Global;
@@ -26,7 +26,16 @@ fn write_output<S: Shelf>(alloc: Global, output: Output, shelf: &mut S) -> Resul
 {
     match write_all(alloc, output.files.as_slice(), shelf) {
         Ok(()) => Ok(output),
-        Err(OutputError::Failed { place }) => Err(Failure::WriteFailed { place }),
-        Err(OutputError::Memory) => Err(Failure::Memory),
+        Err(error) => Err(write_failure(error)),
+    }
+}
+
+/// What writes come to that ended with this error.
+fn write_failure(error: OutputError) -> Failure
+    ensures { result ≡ write_failure_of error }
+{
+    match error {
+        OutputError::Failed { place } => Failure::WriteFailed { place },
+        OutputError::Memory => Failure::Memory,
     }
 }

@@ -22,11 +22,9 @@ use ip_core::{List, Model, OutOfMemory};
 use log_text::log_text;
 use mps_read::MpsModel;
 use node_pool::SearchSettings;
-use task_steps::{
-    Search, Status, answer_of, answers_are_true, histories_are_read, limits_are_met,
-};
 use stamp_machine::{History, Limits, run_alone};
 use std::alloc::Global;
+use task_steps::{Search, Status, answer_of, answers_are_true, histories_are_read, limits_are_met};
 use width_admit::{AdmitError, admit};
 use xsearch_words::{OutputFile, Shelf, Sink, SolveJob, Tune};
 

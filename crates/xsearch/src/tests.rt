@@ -40,6 +40,10 @@ const SEVENS: &[u8] =
 const PAIR: &[u8] =
     b"NAME pair\nROWS\n N c\n E a\nCOLUMNS\n M 'MARKER' 'INTORG'\n x a 1\n y a 1\n M 'MARKER' 'INTEND'\nRHS\n r a 2\nBOUNDS\n UP k x 1\n UP k y 1\nENDATA\n";
 
+/// 2x + 2y + 2z = 3 in 0 to 1 without costs.
+const HALVES: &[u8] =
+    b"NAME halves\nROWS\n N c\n E a\nCOLUMNS\n M 'MARKER' 'INTORG'\n x a 2\n y a 2\n z a 2\n M 'MARKER' 'INTEND'\nRHS\n r a 3\nBOUNDS\n UP k x 1\n UP k y 1\n UP k z 1\nENDATA\n";
+
 /// An equality row of 5 with the range -2: from 3 to 5.
 const RANGE: &[u8] =
     b"NAME range\nROWS\n N c\n E a\nCOLUMNS\n M 'MARKER' 'INTORG'\n x c 1 a 1\n M 'MARKER' 'INTEND'\nRHS\n r a 5\nRANGES\n g a -2\nBOUNDS\n UP k x 9\nENDATA\n";
@@ -513,6 +517,103 @@ fn failing_calls(rt: HostRuntime) -> Result<(), Fail> {
     Ok(())
 }
 
+/// Words over a file `m`, the exit status, and the log that is written to the file `l`.
+struct Logged {
+    words: &'static str,
+    model: &'static [u8],
+    status: u8,
+    log: &'static [u8],
+}
+
+const LOGGED: [Logged; 5] = [
+    Logged {
+        words: "solve m --tasks=2 --log=l",
+        model: ONE,
+        status: 0,
+        log: b"xsearch log 1
+tasks 2 work 200000000 store 2097152 cuts no heuristics no
+0 0 start 0
+14 0 found 0 0
+14 0 closed 0
+14 0 done
+end 0 14
+end 1 1000
+status optimal
+",
+    },
+    Logged {
+        words: "solve m --tasks=1 --work=0 --log=l",
+        model: ONE,
+        status: 3,
+        log: LOG_WITHOUT_WORK,
+    },
+    Logged {
+        words: "solve m --tasks=1 --work=14 --log=l",
+        model: ONE,
+        status: 3,
+        log: b"xsearch log 1
+tasks 1 work 14 store 4194304 cuts no heuristics no
+0 0 start 0
+end 0 14
+status worklimit
+",
+    },
+    Logged {
+        words: "solve m --tasks=1 --log=l",
+        model: HALVES,
+        status: 0,
+        log: LOG_OF_HALVES,
+    },
+    Logged {
+        words: "alone m --tasks=1 --log=l",
+        model: HALVES,
+        status: 0,
+        log: LOG_OF_HALVES,
+    },
+];
+
+const LOG_OF_HALVES: &[u8] = b"xsearch log 1
+tasks 1 work 200000000 store 4194304 cuts no heuristics no
+0 0 start 0
+217 0 split 0 0 0 4 0 0
+225 0 closed 4
+225 0 done
+225 0 start 5
+240 0 closed 5
+240 0 done
+end 0 240
+status infeasible
+";
+
+/// The exit status of a run over the file `m`, and the file `l` afterwards.
+fn log_after(alloc: Global, line: &str, model: &[u8]) -> Result<(u8, Text), OutOfMemory> {
+    let mut shelf = SureShelf::new(alloc);
+    shelf.set(text(alloc, b"m")?, List::of(Vec::from_slice(alloc, model)?))?;
+    let mut out = SureSink::new(alloc);
+    let words = words(alloc, line)?;
+    let code = run(alloc, words.as_slice(), &mut shelf, &mut out);
+    let log = shelf.file(&text(alloc, b"l")?).unwrap_or(b"");
+    Ok((code, text(alloc, log)?))
+}
+
+/// The number of the first case whose log is another.
+fn first_other_log(alloc: Global, cases: &[Logged]) -> Result<Option<usize>, OutOfMemory> {
+    for i in 0..cases.len() {
+        let case = &cases[i];
+        let (status, log) = log_after(alloc, case.words, case.model)?;
+        if status != case.status || log.as_slice() != case.log {
+            return Ok(Some(i));
+        }
+    }
+    Ok(None)
+}
+
+#[test]
+fn searches_are_logged(rt: HostRuntime) -> Result<(), Fail> {
+    assert_eq!(rt; first_other_log(rt.alloc(), &LOGGED)?, None);
+    Ok(())
+}
+
 /// A name without a file is a failed read of a shelf that has faults, and it is the last fault.
 #[test]
 fn a_missing_file(rt: HostRuntime) -> Result<(), Fail> {
@@ -582,6 +683,10 @@ fn a_point_too_long_for_the_store(rt: HostRuntime) -> Result<(), Fail> {
     let alloc = rt.alloc();
     let answer = b"status storelimit\nobjective none\n";
     assert!(rt; is_stored_answer(alloc, 46, 4, answer)?);
+    let file = free_columns(alloc, 46)?;
+    let line = "solve m --tasks=1 --store=64 --log=l";
+    let (_, log) = log_after(alloc, line, file.as_bytes())?;
+    assert!(rt; has(log.as_slice(), b"\n0 0 start 0\n14 0 halt\nend 0 "));
     Ok(())
 }
 

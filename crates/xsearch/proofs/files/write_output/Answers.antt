@@ -1,6 +1,7 @@
-use Rattle.xsearch.proofs.Running.{one_failed}
+use Rattle.xsearch.proofs.Running.{not_written}
 use Rattle.xsearch.proofs.files.write_output.Goals as goal
 
-pub returns-in-Err-Failed : goal.returns-in-Err-Failed
-returns-in-Err-Failed g c =
-    one_failed c.args.output _ _ _ c.in-Err-Failed.place _ _ c.write_all.ensures c.as_slice.ensures c.in-Err-Failed.is c.in-Err-Failed.field-0-is
+-- src/files.rt:24:1
+pub returns-in-Err : goal.returns-in-Err
+returns-in-Err g c =
+    not_written c.args.output _ _ c.in-Err.error c.write_failure.result _ _ c.write_all.ensures c.as_slice.ensures c.in-Err.is c.write_failure.ensures
