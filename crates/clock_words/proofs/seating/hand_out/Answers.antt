@@ -22,7 +22,8 @@ pub invariant_of-push : goal.invariant_of-push
 invariant_of-push g c =
     mirror_of_new _ _ _ c.loop-slot.slot
     (seat_after _ _ c.loop-slot.slot _ _ c.loop-slot.invariant.view c.split_seat-place.ensures.4)
-    (omega arith) refl refl (c.in_ok-seen.ensures ∙ ap (λ (n : ℕ). replicate n 0) (sym c.requires.shape))
+    (omega arith) refl refl (c.in_ok-seen.ensures ∙ ap (λ (n : ℕ). replicate n 0)
+    (sym c.requires.shape))
 
 pub loop-slot-preserved : goal.loop-slot-preserved
 loop-slot-preserved g c =
