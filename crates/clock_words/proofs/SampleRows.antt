@@ -2,7 +2,7 @@
 use Rattle.std.proofs.Common.{ℕ, zero, suc, ◌+◌, ◌-◌, ◌<◌, ◌≤◌, ◌≡◌, List, [], ◌∷◌, length, map, set, replicate, slice_index, take, drop, refl, sym, ap, ◌∙◌, subst, arith}
 use Rattle.std.proofs.lemmas.Bool.Decides.{nat_tests}
 use Rattle.clock_words.specs.Samples.{number_lists, numbers, run_list, run_lists}
-use Rattle.clock_words.specs.Seats.{BoardView, IsSeat, SeatView, new_seat, own_list, with_look}
+use Rattle.clock_words.specs.Seats.{BoardView, IsSeat, SeatView, clock_seen, due_seen, new_seat, own_list, with_look}
 use Rattle.clock_words.specs.Stories.{AreWithin, Lists, due, list_of, stamped_word}
 use Rattle.clock_words.specs.declared.story.StampedWord.{StampedWord}
 use Rattle.clock_words.proofs.DueWords.{due_words_most}
@@ -112,3 +112,14 @@ module _ (board : BoardView) (s : SeatView) (seat : IsSeat board s) (slot : s.sl
       let e : due (own_list s) stamp ≡ due (numbers 0 200) stamp =
       ap (λ (l : List StampedWord). due l stamp) (own_list_is number_lists story) in
       omega (arith, due_words_most (numbers 0 200) stamp, length_numbers 0 200)
+
+-- no more numbers are seen to be due than there are
+pub most_seen : (board : BoardView) (s : SeatView) → IsSeat board s → board.story ≡ number_lists
+    → due_seen s 0 ≤ 200
+most_seen board s seat story =
+    let lists : list_of s.board.story 0 ≡ numbers 0 200 =
+    ap (λ (b : BoardView). list_of b.story 0) seat.same
+    ∙ ap (λ (l : Lists). list_of l 0) story in
+    let seen : due_seen s 0 ≡ due (numbers 0 200) (clock_seen s 0) =
+    ap (λ (l : List StampedWord). due l (clock_seen s 0)) lists in
+    omega (arith, due_words_most (numbers 0 200) (clock_seen s 0), length_numbers 0 200)

@@ -14,14 +14,16 @@ split_seat-place-requires g c =
     let size = c.requires.size in (
       c.loop-slot.invariant.table,
       omega arith,
-      hands_out_next _ _ _ c.loop-slot.slot _ (ap (λ m. m.0) c.loop-slot.invariant.view) (omega arith),
+      hands_out_next _ _ _ c.loop-slot.slot _ (ap (λ m. m.0) c.loop-slot.invariant.view)
+          (omega arith),
     )
 
 pub invariant_of-push : goal.invariant_of-push
 invariant_of-push g c =
     mirror_of_new _ _ _ c.loop-slot.slot
-    (seat_after _ _ c.loop-slot.slot _ _ c.loop-slot.invariant.view c.split_seat-place.ensures.4) refl
-    refl refl (c.in_ok-seen.ensures ∙ ap (λ (n : ℕ). replicate n 0) (sym c.requires.shape))
+    (seat_after _ _ c.loop-slot.slot _ _ c.loop-slot.invariant.view c.split_seat-place.ensures.4)
+    (omega arith) refl refl (c.in_ok-seen.ensures ∙ ap (λ (n : ℕ). replicate n 0)
+    (sym c.requires.shape))
 
 pub loop-slot-preserved : goal.loop-slot-preserved
 loop-slot-preserved g c =

@@ -23,7 +23,8 @@ load-requires g c =
 
 pub loop-i-preserved : goal.loop-i-preserved
 loop-i-preserved g c =
-    let told = fetch_told _ _ c.loop-i.place _ _ c.args.slot c.args.from _ c.loop-i.i _ _ c.args.place.now _
+    let told = fetch_told _ _ c.loop-i.place _ _ c.args.slot c.args.from _ c.loop-i.i _ _
+    c.args.place.now _
     c.requires.seat c.requires.shape c.requires.within c.requires.are_due (omega arith)
     c.loop-i.invariant.view c.area_place.ensures c.load.ensures.2 in record {
       same = (

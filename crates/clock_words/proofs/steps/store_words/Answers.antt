@@ -28,5 +28,6 @@ loop-i-preserved g c = record {
     c.store.ensures.0 ∙ c.loop-i.invariant.same.0,
     c.store.ensures.1 ∙ c.loop-i.invariant.same.1,
   );
-  view = put_told c.loop-i.i c.args.place.now c.loop-i.place _ c.loop-i.invariant.view c.store.ensures.2;
+  view = put_told c.loop-i.i c.args.place.now c.loop-i.place _ c.loop-i.invariant.view
+      c.store.ensures.2;
 }

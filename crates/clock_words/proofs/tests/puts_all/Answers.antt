@@ -17,3 +17,10 @@ raise-requires-clause-written c =
     (c.loop-turn.turn + 1) c.requires.story in
     let put = ap (λ (z : SeatView). z.written) c.put.ensures.view in
     let written = before.written in omega arith
+
+pub raise-requires-2-clause-written : goal.raise-requires-2-clause-written
+raise-requires-2-clause-written c =
+    let before = c.loop-turn.invariant in
+    let most = most_of_numbers c.args.board.now c.loop-turn.seat before.seat before.slot
+    4611686018427387904 c.requires.story in
+    let written = before.written in omega arith

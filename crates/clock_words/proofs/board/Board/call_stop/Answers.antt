@@ -10,11 +10,13 @@ raise_stop-requires-clause-seat g c =
     c.requires.seat c.seat.invariant.role
 
 pub raise_stop-requires-clause-within : goal.raise_stop-requires-clause-within
-raise_stop-requires-clause-within g c = within_told _ _ _ _ _ _ c.self.invariant (sym c.self.view_is)
+raise_stop-requires-clause-within g c = within_told _ _ _ _ _ _ c.self.invariant
+    (sym c.self.view_is)
 
 pub invariant_of-seat : goal.invariant_of-seat
 invariant_of-seat g c =
-    mirror_with_stop c.seat.inside _ true c.seat.invariant c.raise_stop.ensures.view refl refl refl refl
+    mirror_with_stop c.seat.inside _ true c.seat.invariant c.raise_stop.ensures.view refl refl refl
+    refl
 
 pub returns-clause-view : goal.returns-clause-view
 returns-clause-view g c =

@@ -10,14 +10,16 @@ pub keep_greater-requires : goal.keep_greater-requires
 keep_greater-requires g c =
     let here = as_many_seen _ _ _ _ _ c.seat.inside.place _ _ c.self.invariant (sym c.self.view_is)
     (sym c.seat.view_is) c.requires.seat in
-    let there = as_many_seen _ _ _ _ _ c.other.inside.place _ _ c.self.invariant (sym c.self.view_is)
+    let there = as_many_seen _ _ _ _ _ c.other.inside.place _ _ c.self.invariant
+    (sym c.self.view_is)
     (sym c.other.view_is) c.requires.other in
     let a = ap length c.seat.invariant.seen in let b = ap length c.other.invariant.seen in
     omega arith
 
 pub join_seat-requires : goal.join_seat-requires
 join_seat-requires g c =
-    let here = at_table _ _ _ _ _ c.seat.inside.place _ _ c.self.invariant (sym c.self.view_is) (sym c.seat.view_is)
+    let here = at_table _ _ _ _ _ c.seat.inside.place _ _ c.self.invariant (sym c.self.view_is)
+    (sym c.seat.view_is)
     c.requires.seat c.seat.invariant.role in
     let there = at_table _ _ _ _ _ c.other.inside.place _ _ c.self.invariant (sym c.self.view_is)
     (sym c.other.view_is) c.requires.other c.other.invariant.role in
@@ -33,7 +35,8 @@ pub invariant_of-seat : goal.invariant_of-seat
 invariant_of-seat g c =
     let here = story_of_view _ _ _ _ _ c.seat.inside.place _ _ c.self.invariant (sym c.self.view_is)
     (sym c.seat.view_is) c.requires.seat in
-    let there = story_of_view _ _ _ _ _ c.other.inside.place _ _ c.self.invariant (sym c.self.view_is)
+    let there = story_of_view _ _ _ _ _ c.other.inside.place _ _ c.self.invariant
+    (sym c.self.view_is)
     (sym c.other.view_is) c.requires.other in
     mirror_after_join c.seat.inside _ c.other.inside c.seat.invariant c.other.invariant
     (here ∙ sym there) c.join_seat.ensures.2 refl refl refl (c.keep_greater.ensures

@@ -29,7 +29,8 @@ invariant_of-seat g c =
 pub returns-clause-view : goal.returns-clause-view
 returns-clause-view g c =
     look_seen _ _ _ _ _ c.load_clock-word.ensures.seat.0 c.seat.view_is c.args.slot
-    c.load_clock-word.result _ (ap (λ p. p.0) c.load_clock-word.ensures.found.view) c.stamp_of.ensures
+    c.load_clock-word.result _ (ap (λ p. p.0) c.load_clock-word.ensures.found.view)
+    c.stamp_of.ensures
 
 pub returns-clause-seat : goal.returns-clause-seat
 returns-clause-seat g c =
@@ -37,5 +38,6 @@ returns-clause-seat g c =
 
 pub returns-clause-later : goal.returns-clause-later
 returns-clause-later g c =
-    look_later c.seat.inside.place.table_id c.seat.inside.place.me.0 _ c.args.slot c.load_clock-word.result _ c.seat.view_is
+    look_later c.seat.inside.place.table_id c.seat.inside.place.me.0 _ c.args.slot
+    c.load_clock-word.result _ c.seat.view_is
     c.load_clock-word.ensures.found.later c.stamp_of.ensures

@@ -9,7 +9,8 @@ use Rattle.clock_words.proofs.board.Board.raise.Goals as goal
 
 pub raised_word-word-requires : goal.raised_word-word-requires
 raised_word-word-requires g c =
-    let small = written_small _ _ _ _ _ c.seat.inside.place _ _ c.self.invariant (sym c.self.view_is)
+    let small = written_small _ _ _ _ _ c.seat.inside.place _ _ c.self.invariant
+    (sym c.self.view_is)
     (sym c.seat.view_is) c.requires.seat c.seat.invariant.most in
     let same = c.seat.invariant.written in omega arith
 
@@ -33,7 +34,8 @@ pub raise_clock-requires-clause-word : goal.raise_clock-requires-clause-word
 raise_clock-requires-clause-word g c =
     let at = raise_clock-requires-clause-seat g c in
     raise_is c.seat.inside _ _ c.seat.invariant c.seat.view_is at.owning.told.lists c.args.stamp _
-    (written_small _ _ _ _ _ c.seat.inside.place _ _ c.self.invariant (sym c.self.view_is) (sym c.seat.view_is)
+    (written_small _ _ _ _ _ c.seat.inside.place _ _ c.self.invariant (sym c.self.view_is)
+    (sym c.seat.view_is)
     c.requires.seat c.seat.invariant.most) c.requires.stamp c.requires.later c.requires.written
     c.raised_word-word.ensures
 
