@@ -74,8 +74,8 @@ pub not_written : {A : Type 0} (output : Output) (files : List OutputFile) (left
     → IsWritten (Ok output) old new (Err failure)
 not_written {A} output files left error failure old new by same is fails =
     let ended : AreLeftBy (error_of A error) output.files old new =
-        subst (λ (fs : List OutputFile). AreLeftBy (error_of A error) fs old new) same
-        (subst (λ (l : Result A OutputError). AreLeftBy l files old new) is by) in
+    subst (λ (fs : List OutputFile). AreLeftBy (error_of A error) fs old new) same
+    (subst (λ (l : Result A OutputError). AreLeftBy l files old new) is by) in
     subst (λ (f : Failure). IsWritten (Ok output) old new (Err f)) (sym fails)
     (by_error A output error old new ended)
 
