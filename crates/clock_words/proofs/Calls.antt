@@ -1,16 +1,15 @@
 -- What the calls of a board ask of the steps on its table, and what callers see afterwards.
-use Rattle.std.proofs.Common.{ℕ, zero, suc, ◌+◌, ◌^◌, ◌<◌, ◌≤◌, ◌≡◌, Bool, List, [], ◌∷◌, ◌++◌, length, map, set, take, drop, slice_index, refl, sym, ap, ◌∙◌, subst, arith}
+use Rattle.std.proofs.Common.{ℕ, suc, ◌+◌, ◌^◌, ◌<◌, ◌≤◌, ◌≡◌, Bool, List, [], ◌∷◌, ◌++◌, length, map, take, drop, slice_index, refl, sym, ap, ◌∙◌, subst, arith}
 use Rattle.std.proofs.Math.ListN.{length-set}
-use Rattle.std.proofs.lemmas.List.{length-map, length-replicate}
+use Rattle.std.proofs.lemmas.List.{length-replicate}
 use Rattle.atomic_table.specs.Seated.{TableId}
 use Rattle.clock_words.specs.Clocks.{IsStamp, raised_word, stamp_of}
 use Rattle.clock_words.specs.Mirrors.{IsMirror}
 use Rattle.clock_words.specs.Rule.{IsRaise}
 use Rattle.clock_words.specs.Seats.{BoardView, IsSeat, SeatView, clock_seen, due_seen, new_seat, new_seats, own_list, seat_view, with_fetch, with_join, with_look}
-use Rattle.clock_words.specs.Stories.{AreWithin, Lists, due, list_of, stamped_word}
-use Rattle.clock_words.specs.Views.{after_fetch, after_join, after_look, after_put, after_raise, greater_of, newcomer, with_stop, zeros}
+use Rattle.clock_words.specs.Stories.{Lists, due, list_of, stamped_word}
+use Rattle.clock_words.specs.Views.{after_fetch, after_join, after_look, after_put, after_raise, newcomer, with_stop, zeros}
 use Rattle.clock_words.specs.declared.seat.BoardSeat.TheInside.{Inside}
-use Rattle.clock_words.specs.declared.story.StampedWord.{StampedWord}
 use Rattle.clock_words.specs.declared.view.Shape.{Shape}
 use Rattle.clock_words.specs.declared.view.View.{View}
 use Rattle.clock_words.proofs.Greater.{greater_length}

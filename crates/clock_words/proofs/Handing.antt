@@ -1,15 +1,15 @@
 -- The board as it begins, a slot handed out, and a seat joined to another.
-use Rattle.std.proofs.Common.{ℕ, zero, suc, ◌+◌, ◌*◌, ◌<◌, ◌≤◌, ◌≡◌, ◌≢◌, ◌⊎◌, Bool, true, false, cond, eqb, max, ◌||◌, List, [], ◌∷◌, ◌++◌, length, set, get_or, replicate, map, slice_index, inl, inr, ⊎_elim, refl, sym, ap, ◌∙◌, subst, eq-eqb, ne_eqb, arith}
+use Rattle.std.proofs.Common.{ℕ, zero, suc, ◌+◌, ◌*◌, ◌<◌, ◌≤◌, ◌≡◌, ◌≢◌, ◌⊎◌, Bool, true, false, cond, eqb, ◌||◌, List, [], ◌∷◌, ◌++◌, length, set, replicate, slice_index, inl, inr, ⊎_elim, refl, sym, ap, ◌∙◌, subst, eq-eqb, ne_eqb, arith}
 use Rattle.std.proofs.lemmas.List.{length-replicate}
-use mathlib.Core.Option.{none, some, some-injective, some-ne-none}
+use mathlib.Core.Option.{some, some-injective, some-ne-none}
 use mathlib.Core.Logic.{dite}
 use native.Mathlib.Decide.{ℕ_discrete}
 use lib.ListN.{get_elem?}
 use Rattle.atomic_table.specs.Table.{Joins, Me, Splits, State, opening}
-use Rattle.atomic_table.proofs.Lists.{at_longer, at_set, set_here, set_else}
+use Rattle.atomic_table.proofs.Lists.{at_longer, set_here, set_else}
 use Rattle.clock_words.specs.Clocks.{due_count, stamp_of}
-use Rattle.clock_words.specs.Places.{area_in, clock_in, stop_in, word_count}
-use Rattle.clock_words.specs.Rule.{HasMark, IsKept, IsMaker, IsOwner, IsOwning, IsSlot, IsTold, IsTrueView}
+use Rattle.clock_words.specs.Places.{clock_in, word_count}
+use Rattle.clock_words.specs.Rule.{HasMark, IsKept, IsMaker, IsOwning, IsSlot, IsTold, IsTrueView}
 use Rattle.clock_words.specs.Stories.{Lists, due, list_of}
 use Rattle.clock_words.specs.Views.{after_handing, after_join, greater_of, handed_view, maker, newcomer, spent, zeros}
 use Rattle.clock_words.specs.declared.view.Role.TheVariants.{Maker, Owner, Spent}

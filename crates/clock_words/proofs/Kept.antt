@@ -1,16 +1,16 @@
 -- What stays true of slots and seats when some words, or one view, change.
-use Rattle.std.proofs.Common.{ℕ, zero, suc, ◌+◌, ◌<◌, ◌≤◌, ◌≡◌, ◌≢◌, ◌⊎◌, Bool, true, false, List, [], ◌∷◌, length, set, slice_index, inl, inr, ⊎_elim, refl, sym, ap, ◌∙◌, subst, arith}
+use Rattle.std.proofs.Common.{ℕ, zero, suc, ◌<◌, ◌≤◌, ◌≡◌, ◌≢◌, Bool, true, List, [], ◌∷◌, length, set, slice_index, ⊎_elim, sym, ap, ◌∙◌, subst, arith}
 use mathlib.Core.Option.{some, some-injective, some-ne-none}
 use mathlib.Core.Logic.{dite}
 use native.Mathlib.Decide.{ℕ_discrete}
 use lib.ListN.{get_elem?}
 use Rattle.atomic_table.specs.Table.{State}
 use Rattle.atomic_table.proofs.Lists.{at_set, set_here, set_else}
-use Rattle.clock_words.specs.Clocks.{due_count, stamp_of}
-use Rattle.clock_words.specs.Places.{area_in, clock_in, stop_in, word_count}
-use Rattle.clock_words.specs.Rule.{HasMark, IsKept, IsMaker, IsOwner, IsSlot, IsTold, IsTrueView}
-use Rattle.clock_words.specs.Stories.{Lists, list_of}
-use Rattle.clock_words.specs.declared.view.Role.TheVariants.{Maker, Owner, Spent}
+use Rattle.clock_words.specs.Clocks.{due_count}
+use Rattle.clock_words.specs.Places.{area_in, clock_in, stop_in}
+use Rattle.clock_words.specs.Rule.{HasMark, IsKept, IsMaker, IsOwner, IsSlot, IsTrueView}
+use Rattle.clock_words.specs.Stories.{Lists}
+use Rattle.clock_words.specs.declared.view.Role.TheVariants.{Maker, Owner}
 use Rattle.clock_words.specs.declared.view.Shape.{Shape}
 use Rattle.clock_words.specs.declared.view.View.{View}
 

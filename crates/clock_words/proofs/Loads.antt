@@ -1,28 +1,24 @@
 -- Each kind of step keeps the rule, and tells what it is to tell.
-use Rattle.std.proofs.Common.{ℕ, zero, suc, ◌+◌, ◌*◌, ◌<◌, ◌≤◌, ◌≡◌, ◌≢◌, ◌⊎◌, Bool, true, false, max, nat_lt, List, [], ◌∷◌, length, set, get_or, slice_index, slice_set, inl, inr, ⊎_elim, refl, sym, ap, ◌∙◌, subst, arith}
+use Rattle.std.proofs.Common.{ℕ, ◌<◌, ◌≤◌, ◌≡◌, nat_lt, List, length, set, get_or, slice_index, refl, sym, ap, ◌∙◌, subst, arith}
 use Rattle.std.proofs.lemmas.Bool.{lt-ltb, ltb-true}
 use Rattle.std.proofs.lemmas.List.{set-get_or, get_or-set_same, get_or-set_other, set_past}
-use Rattle.std.proofs.Math.ListN.{length-set}
 use Rattle.std.proofs.Math.Decide.{dec_lt}
-use mathlib.Core.Option.{none, some}
+use mathlib.Core.Option.{none}
 use mathlib.Core.Logic.{dite}
 use native.Mathlib.Decide.{ℕ_discrete}
-use lib.ListN.{get_elem?}
 use Rattle.atomic_table.specs.Table.{Allows, Me, State, keeps, step}
-use Rattle.atomic_table.proofs.Lists.{set_here}
 use Rattle.clock_words.specs.Clocks.{due_count, stamp_of}
-use Rattle.clock_words.specs.Places.{area_in, area_place, clock_in, clock_place, stop_in, word_count}
-use Rattle.clock_words.specs.Rule.{HasMark, IsKept, IsMaker, IsOwner, IsOwning, IsSlot, IsTold, IsTrueView}
-use Rattle.clock_words.specs.Steps.{HasAsked, HasFetched, HasLooked, ask, call, fetch, look, put, raise}
-use Rattle.clock_words.specs.Stories.{AreWithin, Lists, due, list_of, stamp_at, word_at}
-use Rattle.clock_words.specs.Views.{after_fetch, after_look, after_put, after_raise, with_stop}
+use Rattle.clock_words.specs.Places.{area_place, clock_in, clock_place}
+use Rattle.clock_words.specs.Rule.{IsKept, IsOwning}
+use Rattle.clock_words.specs.Steps.{HasFetched, HasLooked, ask, fetch, look}
+use Rattle.clock_words.specs.Stories.{AreWithin, Lists, due, list_of, word_at}
+use Rattle.clock_words.specs.Views.{after_fetch, after_look, with_stop}
 use Rattle.clock_words.specs.declared.story.StampedWord.{StampedWord}
-use Rattle.clock_words.specs.declared.view.Role.TheVariants.{Maker, Owner}
 use Rattle.clock_words.specs.declared.view.Shape.{Shape}
 use Rattle.clock_words.specs.declared.view.View.{View}
-use Rattle.clock_words.proofs.Apart.{clock_before_area, same_place, same_slot}
-use Rattle.clock_words.proofs.DueWords.{due_words_least, due_words_most, due_words_rise}
-use Rattle.clock_words.proofs.Kept.{after_change, is_there, kept_by_load, mark_stays, slot_stays, view_learns, view_stays}
+use Rattle.clock_words.proofs.Apart.{same_place, same_slot}
+use Rattle.clock_words.proofs.DueWords.{due_words_most, due_words_rise}
+use Rattle.clock_words.proofs.Kept.{kept_by_load, view_learns}
 use Rattle.clock_words.proofs.Stamps.{stamps_rise}
 
 -- what a look at a slot has seen is within the clocks again

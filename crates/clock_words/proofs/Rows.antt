@@ -1,9 +1,9 @@
 -- Rows of words that are fetched or put one after the other.
-use Rattle.std.proofs.Common.{ℕ, zero, suc, ◌+◌, ◌<◌, ◌≤◌, ◌≡◌, List, [], ◌∷◌, ◌++◌, length, map, set, get_or, take, drop, slice_index, refl, sym, ap, ◌∙◌, add-zero, zero-add, arith}
+use Rattle.std.proofs.Common.{ℕ, zero, suc, ◌+◌, ◌<◌, ◌≤◌, ◌≡◌, List, [], ◌∷◌, length, map, set, take, drop, slice_index, refl, sym, ap, ◌∙◌, add-zero, arith}
 use Rattle.std.proofs.lemmas.List.{get_or-drop}
 use Rattle.std.proofs.Common.{length-drop, length-take, subst}
 use Rattle.std.proofs.lemmas.List.{length-map}
-use Rattle.clock_words.specs.Stories.{AreWithin, Lists, list_of, stamp_at, stamped_word, stamps_of, word_at, words_of}
+use Rattle.clock_words.specs.Stories.{AreWithin, Lists, list_of, stamp_at, stamped_word, word_at}
 use Rattle.clock_words.specs.Views.{after_fetch, after_put}
 use Rattle.clock_words.specs.declared.story.StampedWord.{StampedWord}
 use Rattle.clock_words.specs.declared.view.View.{View}

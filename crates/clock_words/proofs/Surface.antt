@@ -1,18 +1,17 @@
 -- What callers see of a seat after each step, and what the seat keeps beside its view.
-use Rattle.std.proofs.Common.{ℕ, zero, suc, ◌+◌, ◌<◌, ◌≤◌, ◌≡◌, ◌||◌, Bool, List, [], ◌∷◌, length, map, set, slice_index, slice_set, refl, sym, ap, ◌∙◌, subst, arith}
-use Rattle.std.proofs.Math.ListN.{length-set}
+use Rattle.std.proofs.Common.{ℕ, ◌+◌, ◌≤◌, ◌≡◌, Bool, List, [], length, set, slice_index, sym, ap, ◌∙◌, subst, arith}
 use Rattle.std.proofs.lemmas.List.{length-map}
 use Rattle.atomic_table.specs.Seated.{TableId}
 use Rattle.clock_words.specs.Clocks.{due_count, stamp_of}
 use Rattle.clock_words.specs.Mirrors.{IsMirror}
-use Rattle.clock_words.specs.Seats.{BoardView, IsSeat, SeatView, clock_seen, due_seen, new_seat, seat_view, with_fetch, with_join, with_look}
+use Rattle.clock_words.specs.Seats.{SeatView, due_seen, new_seat, seat_view, with_fetch, with_join, with_look}
 use Rattle.clock_words.specs.Stories.{Lists, due, list_of}
 use Rattle.clock_words.specs.Views.{after_fetch, after_join, after_look, after_put, after_raise, greater_of, newcomer, with_stop, zeros}
 use Rattle.clock_words.specs.declared.seat.BoardSeat.TheInside.{Inside}
 use Rattle.clock_words.specs.declared.view.Role.TheVariants.{Owner}
 use Rattle.clock_words.specs.declared.view.Shape.{Shape}
 use Rattle.clock_words.specs.declared.view.View.{View}
-use Rattle.clock_words.proofs.Greater.{greater_either, greater_length, stamps_of_greater}
+use Rattle.clock_words.proofs.Greater.{greater_either, stamps_of_greater}
 use Rattle.clock_words.proofs.Seen.{counts_after_look, zeros_count}
 use Rattle.clock_words.proofs.Tables.{stamp_seen, stamps_of_zeros, stamps_seen_set}
 

@@ -1,12 +1,11 @@
 -- A board and its table, a seat and its place at the table.
-use Rattle.std.proofs.Common.{ℕ, zero, suc, ◌+◌, ◌^◌, ◌<◌, ◌≤◌, ◌≡◌, List, [], ◌∷◌, length, map, set, replicate, slice_index, slice_set, refl, sym, ap, ◌∙◌, subst, arith}
+use Rattle.std.proofs.Common.{ℕ, zero, suc, ◌^◌, ◌<◌, ◌≤◌, ◌≡◌, List, [], ◌∷◌, length, map, set, replicate, slice_index, refl, sym, ap, ◌∙◌, subst, arith}
 use Rattle.std.proofs.lemmas.List.{length-map}
 use Rattle.std.proofs.Math.ListN.{get_or-map}
 use Rattle.atomic_table.specs.Seated.{TableId}
 use Rattle.atomic_table.specs.declared.shared.Seat.{Seat}
 use Rattle.clock_words.specs.Clocks.{stamp_of}
 use Rattle.clock_words.specs.Places.{word_count}
-use Rattle.clock_words.specs.Rule.{IsOwning, IsTold}
 use Rattle.clock_words.specs.Seats.{BoardView, IsAtTable, IsBoard, IsSeat, SeatView, seat_view}
 use Rattle.clock_words.specs.Stories.{AreWithin, Lists, list_of}
 use Rattle.clock_words.specs.declared.view.Role.TheVariants.{Owner}

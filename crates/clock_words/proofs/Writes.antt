@@ -1,6 +1,6 @@
 -- The steps that change a word: a store of an own word, a raise of the own clock word, and a call
 -- of the stop.
-use Rattle.std.proofs.Common.{ℕ, zero, suc, ◌+◌, ◌*◌, ◌<◌, ◌≤◌, ◌≡◌, ◌≢◌, ◌⊎◌, Bool, true, false, max, List, [], ◌∷◌, length, set, get_or, slice_index, inl, inr, ⊎_elim, refl, sym, ap, ◌∙◌, subst, arith}
+use Rattle.std.proofs.Common.{ℕ, ◌+◌, ◌<◌, ◌≤◌, ◌≡◌, ◌≢◌, true, max, List, length, set, get_or, refl, sym, ap, ◌∙◌, subst, arith}
 use Rattle.std.proofs.lemmas.List.{get_or-set_same, get_or-set_other}
 use Rattle.std.proofs.Math.ListN.{length-set}
 use mathlib.Core.Option.{none, some}
@@ -10,8 +10,8 @@ use lib.ListN.{get_elem?}
 use Rattle.atomic_table.specs.Table.{Allows, Me, State, keeps, step}
 use Rattle.atomic_table.proofs.Lists.{set_here}
 use Rattle.clock_words.specs.Clocks.{due_count, stamp_of}
-use Rattle.clock_words.specs.Places.{area_in, area_place, clock_in, clock_place, stop_in, word_count}
-use Rattle.clock_words.specs.Rule.{HasMark, IsKept, IsMaker, IsOwner, IsOwning, IsRaise, IsSlot, IsTold, IsTrueView, later, same}
+use Rattle.clock_words.specs.Places.{area_in, area_place, clock_in, clock_place, stop_in}
+use Rattle.clock_words.specs.Rule.{IsKept, IsOwner, IsOwning, IsRaise, IsSlot, IsTrueView, later, same}
 use Rattle.clock_words.specs.Steps.{call, put, raise}
 use Rattle.clock_words.specs.Stories.{AreWithin, Lists, due, list_of, stamp_at, word_at}
 use Rattle.clock_words.specs.Views.{after_put, after_raise, with_stop}

@@ -1,6 +1,6 @@
 -- Where the words of the board lie: the stop word, a clock word for each slot, each in a line of
 -- the cache of its own, and an area of words for each slot.
-use Rattle.std.specs.Prelude.{ℕ, ◌+◌, ◌*◌, ◌≡◌, ◌≤◌, ◌<◌, ◌^◌, List, slice_index}
+use Rattle.std.specs.Prelude.{ℕ, ◌+◌, ◌*◌, ◌≤◌, ◌<◌, ◌^◌, List, slice_index}
 use Rattle.clock_words.specs.declared.view.Shape.{Shape}
 
 -- the place of a slot's clock word: eight words are a line of the cache

@@ -2,7 +2,7 @@
 use Rattle.std.specs.Prelude.{ℕ, zero, suc, ◌+◌, ◌≡◌, ◌<◌, ◌||◌, Bool, false, List, [], ◌∷◌, ◌++◌, length, map, replicate, slice_index, slice_set}
 use Rattle.atomic_table.specs.Seated.{TableId}
 use Rattle.atomic_table.specs.declared.shared.Seat.{Seat}
-use Rattle.clock_words.specs.Clocks.{due_count, stamp_of}
+use Rattle.clock_words.specs.Clocks.{stamp_of}
 use Rattle.clock_words.specs.Places.{IsShape, word_count}
 use Rattle.clock_words.specs.Rule.{IsOwning}
 use Rattle.clock_words.specs.Stories.{AreWithin, Lists, due, list_of}

@@ -1,7 +1,6 @@
 -- What a seat knows, as it is handed out and after each of its steps.
-use Rattle.std.specs.Prelude.{ℕ, ◌+◌, ◌||◌, List, [], ◌∷◌, Bool, true, false, max, replicate, slice_index, slice_set}
+use Rattle.std.specs.Prelude.{ℕ, ◌+◌, ◌||◌, List, [], ◌∷◌, Bool, false, max, replicate, slice_index, slice_set}
 use Rattle.clock_words.specs.Stories.{Lists}
-use Rattle.clock_words.specs.declared.view.Role.{Role}
 use Rattle.clock_words.specs.declared.view.Role.TheVariants.{Maker, Owner, Spent}
 use Rattle.clock_words.specs.declared.view.Shape.{Shape}
 use Rattle.clock_words.specs.declared.view.View.{View}

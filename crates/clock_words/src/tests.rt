@@ -1,5 +1,6 @@
 ghost use Rattle.std.specs.Prelude.{◌≡◌, ◌^◌, ◌≤◌, [], IfOk, slice_index};
-ghost use Rattle.clock_words.specs.Samples.{run_lists};
+ghost use Rattle.clock_words.specs.Places.{IsShape};
+ghost use Rattle.clock_words.specs.Samples.{number_lists, run_lists};
 ghost use Rattle.clock_words.specs.Seats.{IsSeat, new_seat};
 ghost use Rattle.clock_words.specs.Stories.{AreWithin};
 
@@ -7,6 +8,8 @@ use super::*;
 use ip_core::OutOfMemory;
 use std::alloc::Global;
 use std::test::Fail;
+use std::thread;
+use std::thread::Threads;
 
 /// A story without words.
 #[derive(Drop)]
@@ -32,6 +35,21 @@ impl Story for Run {
 
     ghost rising = { λ _. runs_rise };
 }
+
+/// A story of which slot 0 puts the numbers from 0 on, each at the clock of its value.
+#[derive(Drop)]
+struct Numbers;
+
+impl Story for Numbers {
+    ghost use Rattle.clock_words.specs.Samples.{number_lists, numbers_rise};
+
+    ghost lists = { λ _. number_lists };
+
+    ghost rising = { λ _. numbers_rise };
+}
+
+/// How many numbers there are.
+const TURNS: u64 = 200;
 
 /// A board of two slots with its seats.
 fn two_seats<S: Story + Drop>(
@@ -129,5 +147,85 @@ fn join_keeps_what_was_seen(rt: HostRuntime) -> Result<(), Fail> {
     board.look(&mut other, 0);
     board.join(&mut one, other);
     assert_eq!(rt; four_words(&board, &mut one), [4, 1, 0, 0]);
+    Ok(())
+}
+
+/// Puts all numbers with seat 0, each at its clock, and ends the slot.
+fn puts_all(board: &Board<Numbers>, mut seat: BoardSeat)
+    requires story { board.now.story ≡ number_lists }
+    requires seat { IsSeat board.now seat }
+    requires begins { (seat.slot ≡ 0) × (seat.own ≡ 0) × (seat.written ≡ 0) }
+{
+    for turn in 0..TURNS {
+        board.put(&mut seat, &[turn]);
+        board.raise(&mut seat, turn + 1);
+    }
+    board.raise(&mut seat, END_STAMP);
+}
+
+/// Fetches all that is due of slot 0 until it has ended, and says whether each time there were the
+/// first numbers, and all of them at the end.
+fn sees_fronts(board: &Board<Numbers>, mut seat: BoardSeat) -> bool
+    requires story { board.now.story ≡ number_lists }
+    requires shape { board.now.shape.slots ≡ 2 }
+    requires seat { IsSeat board.now seat }
+{
+    let mut words = [0; TURNS as usize];
+    for _ in 0..u64::MAX {
+        let clock = board.look(&mut seat, 0);
+        let due = seat.due(0) as usize;
+        let front = &mut words[..due];
+        board.fetch(&mut seat, 0, 0, front);
+        if !is_front(front) {
+            return false;
+        }
+        if clock == END_STAMP {
+            return due as u64 == TURNS;
+        }
+        thread::yield_now();
+    }
+    false
+}
+
+/// Whether these are the numbers from 0 on.
+fn is_front(words: &[u64]) -> bool {
+    for k in 0..words.len() {
+        if words[k] != k as u64 {
+            return false;
+        }
+    }
+    true
+}
+
+/// One thread puts the numbers, and another looks for them.
+fn sees_fronts_beside<R: Threads + Sync>(
+    rt: &R,
+    board: &Board<Numbers>,
+    one: BoardSeat,
+    other: BoardSeat,
+) -> bool
+    requires story { board.now.story ≡ number_lists }
+    requires shape { board.now.shape.slots ≡ 2 }
+    requires one { one ≡ new_seat board.now 0 }
+    requires other { other ≡ new_seat board.now 1 }
+{
+    let ((), fronts) = thread::join(
+        rt,
+        move ||
+            requires { (board.now.story ≡ number_lists) × (board.now.shape.slots ≡ 2) ×
+                (one ≡ new_seat board.now 0) }
+        { puts_all(board, one) },
+        move || -> bool
+            requires { (board.now.story ≡ number_lists) × (board.now.shape.slots ≡ 2) ×
+                (other ≡ new_seat board.now 1) }
+        { sees_fronts(board, other) },
+    );
+    fronts
+}
+
+#[test]
+fn two_threads_see_fronts(rt: HostRuntime) -> Result<(), Fail> {
+    let (board, one, other) = two_seats(rt.alloc(), Numbers, 256)?;
+    assert!(rt; sees_fronts_beside(&rt, &board, one, other));
     Ok(())
 }

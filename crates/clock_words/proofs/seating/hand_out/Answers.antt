@@ -1,9 +1,4 @@
-use Rattle.std.proofs.Common.{ℕ, replicate, [], ◌∷◌, ◌<◌, ◌≡◌, refl, sym, ap, ◌∙◌, arith}
-use Rattle.atomic_table.specs.Table.{Me}
-use Rattle.clock_words.specs.Places.{word_count}
-use Rattle.clock_words.specs.Views.{after_handing, handed_view}
-use Rattle.clock_words.specs.declared.view.Shape.{Shape}
-use Rattle.clock_words.specs.declared.view.View.{View}
+use Rattle.std.proofs.Common.{ℕ, replicate, refl, sym, ap, ◌∙◌, arith}
 use Rattle.clock_words.proofs.Calls.{handed_seen, one_seat_more}
 use Rattle.clock_words.proofs.Handing.{hands_out_next, maker_after, seat_after}
 use Rattle.clock_words.proofs.Surface.{mirror_of_new}

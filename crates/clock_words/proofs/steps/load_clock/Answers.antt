@@ -1,4 +1,4 @@
-use Rattle.std.proofs.Common.{ℕ, ◌<◌, ◌≡◌, sym, subst}
+use Rattle.std.proofs.Common.{◌<◌, sym, subst}
 use Rattle.clock_words.specs.declared.view.Shape.{Shape}
 use Rattle.clock_words.proofs.Asked.{look_asked}
 use Rattle.clock_words.proofs.steps.load_clock.Goals as goal

@@ -1,10 +1,8 @@
-use Rattle.std.proofs.Common.{ℕ, ◌+◌, ◌<◌, ◌≡◌, length, refl, sym, ap, ◌∙◌, subst, arith}
-use Rattle.clock_words.specs.Clocks.{stamp_of}
-use Rattle.clock_words.specs.Stories.{due, list_of, words_of}
+use Rattle.std.proofs.Common.{refl, sym, ap, ◌∙◌, arith}
 use Rattle.clock_words.specs.declared.view.View.{View}
 use Rattle.clock_words.proofs.Asked.{fetch_asked, fetch_told}
 use Rattle.clock_words.proofs.DueWords.{due_short}
-use Rattle.clock_words.proofs.Rows.{fetch_again, fetch_nothing, next_word}
+use Rattle.clock_words.proofs.Rows.{fetch_nothing, next_word}
 use Rattle.clock_words.proofs.steps.load_words.Goals as goal
 
 pub loop-i-init : goal.loop-i-init

@@ -1,4 +1,4 @@
-use Rattle.std.proofs.Common.{ℕ, ◌+◌, ◌<◌, ◌≡◌, length, refl, sym, ap, ◌∙◌, subst, arith}
+use Rattle.std.proofs.Common.{refl, sym, ap, ◌∙◌, arith}
 use Rattle.clock_words.specs.declared.view.View.{View}
 use Rattle.clock_words.proofs.Asked.{put_asked, put_told}
 use Rattle.clock_words.proofs.Rows.{next_within, put_nothing}

@@ -1,4 +1,4 @@
-use Rattle.std.proofs.Common.{ℕ, true, sym, refl, ap, ◌∙◌, subst, arith}
+use Rattle.std.proofs.Common.{true, sym, refl, ap}
 use Rattle.clock_words.proofs.Calls.{seat_after_stop, stop_seen}
 use Rattle.clock_words.proofs.Surface.{mirror_with_stop}
 use Rattle.clock_words.proofs.Tables.{at_table, within_told}

@@ -1,7 +1,6 @@
-use Rattle.std.proofs.Common.{ℕ, sym, refl, ap, ◌∙◌, subst, arith}
-use Rattle.clock_words.specs.declared.view.View.{View}
+use Rattle.std.proofs.Common.{sym, refl, ap, ◌∙◌}
 use Rattle.std.proofs.Common.{length, drop, take, List}
-use Rattle.clock_words.specs.Stories.{list_of, words_of}
+use Rattle.clock_words.specs.Stories.{words_of}
 use Rattle.clock_words.specs.declared.story.StampedWord.{StampedWord}
 use Rattle.clock_words.proofs.Calls.{due_is, fetch_seen, seat_after_fetch}
 use Rattle.clock_words.proofs.Surface.{mirror_after_fetch}

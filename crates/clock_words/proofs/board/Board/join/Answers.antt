@@ -1,4 +1,4 @@
-use Rattle.std.proofs.Common.{ℕ, List, length, sym, refl, ap, ◌∙◌, subst, arith}
+use Rattle.std.proofs.Common.{ℕ, List, length, sym, refl, ap, ◌∙◌, arith}
 use Rattle.clock_words.specs.Views.{greater_of}
 use Rattle.clock_words.proofs.Calls.{join_seen, seat_after_join}
 use Rattle.clock_words.proofs.Handing.{joins}

@@ -1,5 +1,4 @@
-use Rattle.std.proofs.Common.{ℕ, length, sym, refl, ap, ◌∙◌, subst, arith}
-use Rattle.clock_words.specs.declared.view.View.{View}
+use Rattle.std.proofs.Common.{length, sym, refl, ap, arith}
 use Rattle.clock_words.specs.Seats.{SeatView}
 use Rattle.clock_words.proofs.Calls.{look_later, look_seen, seat_after_look}
 use Rattle.clock_words.proofs.Surface.{as_many_kept, mirror_after_look}

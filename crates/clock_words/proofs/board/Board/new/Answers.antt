@@ -1,4 +1,4 @@
-use Rattle.std.proofs.Common.{ℕ, sym, refl, ap, ◌∙◌, arith}
+use Rattle.std.proofs.Common.{◌∙◌}
 use Rattle.clock_words.proofs.Handing.{kept_at_start}
 use Rattle.clock_words.proofs.board.Board.new.Goals as goal
 

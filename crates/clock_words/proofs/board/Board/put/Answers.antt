@@ -1,5 +1,4 @@
-use Rattle.std.proofs.Common.{ℕ, sym, refl, ap, ◌∙◌, subst, arith}
-use Rattle.clock_words.specs.declared.view.View.{View}
+use Rattle.std.proofs.Common.{sym, refl, ap, arith}
 use Rattle.clock_words.proofs.Calls.{next_is, put_most, put_seen, seat_after_put}
 use Rattle.clock_words.proofs.Surface.{mirror_after_put}
 use Rattle.clock_words.proofs.Tables.{at_table, slot_within, within_of}

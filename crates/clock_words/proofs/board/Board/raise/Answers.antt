@@ -1,10 +1,9 @@
-use Rattle.std.proofs.Common.{ℕ, sym, refl, ap, ◌∙◌, subst, arith}
-use Rattle.clock_words.specs.declared.view.View.{View}
+use Rattle.std.proofs.Common.{sym, refl, ap, ◌∙◌, arith}
 use Rattle.clock_words.specs.Clocks.{stamp_of}
 use Rattle.clock_words.proofs.Calls.{raise_is, raise_seen, seat_after_raise}
 use Rattle.clock_words.proofs.Stamps.{raised_stamp}
 use Rattle.clock_words.proofs.Surface.{mirror_after_raise}
-use Rattle.clock_words.proofs.Tables.{at_table, slot_told, slot_within, within_told, written_small}
+use Rattle.clock_words.proofs.Tables.{at_table, slot_within, within_told, written_small}
 use Rattle.clock_words.proofs.board.Board.raise.Goals as goal
 
 pub raised_word-word-requires : goal.raised_word-word-requires

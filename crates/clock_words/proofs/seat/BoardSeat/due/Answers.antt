@@ -1,4 +1,4 @@
-use Rattle.std.proofs.Common.{ℕ, length, sym, refl, ap, ◌∙◌, arith}
+use Rattle.std.proofs.Common.{length, ap, ◌∙◌, arith}
 use Rattle.std.proofs.lemmas.List.{get_or_read}
 use Rattle.clock_words.specs.Clocks.{due_count}
 use Rattle.clock_words.specs.Seats.{SeatView, due_seen}
