@@ -17,7 +17,7 @@ use Rattle.node_pool.specs.Follows.{IsFresh}
 use Rattle.node_pool.specs.Lemmas.Boxes.{same_from_test, test_itself, or_first, or_second}
 use Rattle.node_pool.specs.Lemmas.Orders.{All-insert_open, All-without_node, or_false}
 use Rattle.node_pool.specs.Nodes.{first_named, insert_open, is_before, without_node}
-use Rattle.node_pool.specs.Trees.{HasBound, HasBounds, IsNewBranch, Tree, bound_of, child_bound, node_of, branch_of, with_name}
+use Rattle.node_pool.specs.Trees.{HasBound, HasOpenBounds, IsNewBranch, Tree, bound_of, child_bound, node_of, branch_of, with_name}
 use Rattle.node_pool.specs.Views.{View, is_known}
 use Rattle.node_pool.specs.declared.node.OpenNode.{OpenNode}
 
@@ -120,7 +120,7 @@ no_bound name (Some z) is = absurd (none-some (record { bound = z; name = name }
 
 -- the node of a name is taken out as it stands in the tree
 pub remove_is : (t : Tree) (name : ℕ) (node : OpenNode) (xs ys : List OpenNode)
-    → node_of t name ≡ Some node → HasBounds t xs → ys ≡ remove_key (is_at (node_cmp node)) xs
+    → node_of t name ≡ Some node → HasOpenBounds t xs → ys ≡ remove_key (is_at (node_cmp node)) xs
     → ys ≡ without_node name xs
 remove_is t name node xs ys is have taken =
     let parts = node_cases name (bound_of t name) node is in
@@ -156,7 +156,7 @@ absent_list t name (x ∷ xs) none all =
     (absent_list t name xs none (All-tail (HasBound t) x xs all))
 
 -- no open node has a name that the tree doesn't have
-pub absent_is : (t : Tree) (name : ℕ) (xs : List OpenNode) → node_of t name ≡ None → HasBounds t xs
+pub absent_is : (t : Tree) (name : ℕ) (xs : List OpenNode) → node_of t name ≡ None → HasOpenBounds t xs
     → without_node name xs ≡ xs
 absent_is t name xs none have =
     absent_list t name xs (no_bound name (bound_of t name) none) have.each
@@ -172,7 +172,7 @@ none_named_list t name (x ∷ xs) none all =
 -- bounds that stay
 
 pub bounds_without : (t : Tree) (name : ℕ) (xs ys : List OpenNode) → ys ≡ without_node name xs
-    → HasBounds t xs → HasBounds t ys
+    → HasOpenBounds t xs → HasOpenBounds t ys
 bounds_without t name xs ys is have =
     record {
       each = subst (λ (zs : List OpenNode). All (HasBound t) zs) (sym is)
@@ -185,8 +185,8 @@ bound_named t name named =
     ap (λ (b : Bool). cond b (Some t.root_bound) (child_bound (branch_of t.branches name))) named
 
 pub bounds_with : (t : Tree) (v : View) (node : OpenNode) (xs ys : List OpenNode)
-    → v.branches ≡ t.branches → ys ≡ insert_open node xs → IsFresh v node → HasBounds t xs
-    → HasBounds t ys
+    → v.branches ≡ t.branches → ys ≡ insert_open node xs → IsFresh v node → HasOpenBounds t xs
+    → HasOpenBounds t ys
 bounds_with t v node xs ys same is fresh have =
     let bound : bound_of t node.name ≡ Some node.bound = bound_named t node.name fresh.named
     ∙ ap (λ (bs : List Branch). child_bound (branch_of bs node.name)) (sym same) ∙ fresh.bound in
@@ -230,8 +230,8 @@ bound_stays root bs b x has =
 
 -- the tree has the bounds of open nodes also after one branching more
 pub bounds_after : (t u : Tree) (b : Branch) (xs : List OpenNode)
-    → u ≡ record { root_bound = t.root_bound; branches = t.branches ++ b ∷ [] } → HasBounds t xs
-    → HasBounds u xs
+    → u ≡ record { root_bound = t.root_bound; branches = t.branches ++ b ∷ [] } → HasOpenBounds t xs
+    → HasOpenBounds u xs
 bounds_after t u b xs is have = record {
   each = subst (λ (w : Tree). All (HasBound w) xs) (sym is)
       (All-weaker (HasBound t) (HasBound (record
@@ -242,7 +242,7 @@ bounds_after t u b xs is have = record {
 -- the tree has the bound of the root
 pub bounds_at_first : (t : Tree) (xs : List OpenNode) (bound : ℤ)
     → t ≡ record { root_bound = bound; branches = [] }
-    → xs ≡ record { bound = bound; name = 0 } ∷ [] → HasBounds t xs
+    → xs ≡ record { bound = bound; name = 0 } ∷ [] → HasOpenBounds t xs
 bounds_at_first t xs bound is only = record {
   each = subst (λ (w : Tree). All (HasBound w) xs) (sym is)
       (subst (λ (ys : List OpenNode).
@@ -289,7 +289,7 @@ none_parts (x ∷ bs) name new =
 -- a child of the last branching may be opened
 fresh_child : (t : Tree) (v w : View) (xs : List OpenNode) (b : Branch) (node : OpenNode)
     → v.branches ≡ t.branches → w.open_nodes ≡ xs → w.branches ≡ t.branches ++ b ∷ []
-    → HasBounds t xs → is_known v node.name ≡ false → is_child b node.name ≡ true
+    → HasOpenBounds t xs → is_known v node.name ≡ false → is_child b node.name ≡ true
     → b.bound ≡ node.bound → IsFresh w node
 fresh_child t v w xs b node same nodes more have new child bound =
     let parts = unknown v node.name new in
@@ -308,7 +308,7 @@ fresh_child t v w xs b node same nodes more have new child bound =
 
 pub fresh_low : (t : Tree) (v w : View) (xs : List OpenNode) (b : Branch) (node : OpenNode)
     → v.branches ≡ t.branches → w.open_nodes ≡ xs → w.branches ≡ t.branches ++ b ∷ []
-    → HasBounds t xs → is_known v node.name ≡ false → b.first ≡ node.name → b.bound ≡ node.bound
+    → HasOpenBounds t xs → is_known v node.name ≡ false → b.first ≡ node.name → b.bound ≡ node.bound
     → IsFresh w node
 fresh_low t v w xs b node same nodes more have new first bound =
     fresh_child t v w xs b node same nodes more have new
@@ -317,7 +317,7 @@ fresh_low t v w xs b node same nodes more have new first bound =
 
 pub fresh_high : (t : Tree) (v w : View) (xs : List OpenNode) (b : Branch) (node : OpenNode)
     → v.branches ≡ t.branches → w.open_nodes ≡ xs → w.branches ≡ t.branches ++ b ∷ []
-    → HasBounds t xs → is_known v node.name ≡ false → b.first + 1 ≡ node.name → b.bound ≡ node.bound
+    → HasOpenBounds t xs → is_known v node.name ≡ false → b.first + 1 ≡ node.name → b.bound ≡ node.bound
     → IsFresh w node
 fresh_high t v w xs b node same nodes more have new second bound =
     fresh_child t v w xs b node same nodes more have new

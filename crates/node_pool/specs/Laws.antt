@@ -19,7 +19,7 @@ abbrev pub IsNoLater : OpenNode → OpenNode → Type 0
 IsNoLater a b = (a.bound <ℤ b.bound) ⊎ ((a.bound ≡ b.bound) × (a.name ≤ b.name))
 
 -- the name is that of an open node, and no open node comes before it
-pub record IsBest (v : View) (name : ℕ) : Type 0 where
+pub record IsBestOpen (v : View) (name : ℕ) : Type 0 where
   pub node : OpenNode
   pub named : node.name ≡ name
   pub among : Contains v.open_nodes node
@@ -28,7 +28,7 @@ pub record IsBest (v : View) (name : ℕ) : Type 0 where
 -- at every history the best open node has the least bound, and of those the least name
 abbrev pub BestIsLeast : Type 0
 BestIsLeast = (m : ModelParts) (settings : SearchSettings) (history : List KeyedEntry) (name : ℕ)
-    → best_open (view_of m settings history) ≡ Some name → IsBest (view_of m settings history) name
+    → best_open (view_of m settings history) ≡ Some name → IsBestOpen (view_of m settings history) name
 
 -- every node that is open or held has a known name
 pub record AreKnown (v : View) : Type 0 where

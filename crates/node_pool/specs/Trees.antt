@@ -42,7 +42,7 @@ pub record HasBound (t : Tree) (node : OpenNode) : Type 0 where
   pub is : bound_of t node.name ≡ Some node.bound
 
 -- the tree has the bound of each node
-pub record HasBounds (t : Tree) (nodes : List OpenNode) : Type 0 where
+pub record HasOpenBounds (t : Tree) (nodes : List OpenNode) : Type 0 where
   pub each : All (HasBound t) nodes
 
 -- neither child of the branching has a name that an earlier one makes

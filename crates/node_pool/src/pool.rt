@@ -38,7 +38,7 @@ pub struct Pool {
 }
 
 impl std::marker::Model for Pool {
-    ghost use Rattle.node_pool.specs.Trees.{HasBounds};
+    ghost use Rattle.node_pool.specs.Trees.{HasOpenBounds};
     ghost use Rattle.node_pool.specs.Views.{View};
 
     ghost Value = { View };
@@ -58,7 +58,7 @@ impl std::marker::Model for Pool {
       has_halt = p.has_halt;
     } };
 
-    ghost invariant = { λ p. HasBounds p.tree p.open_nodes.keys };
+    ghost invariant = { λ p. HasOpenBounds p.tree p.open_nodes.keys };
 }
 
 impl Pool {

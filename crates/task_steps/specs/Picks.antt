@@ -5,7 +5,7 @@ use Rattle.work_stamp.specs.declared.entry.Entry.{Entry}
 use Rattle.work_stamp.specs.declared.entry.Entry.TheVariants.{Start}
 use Rattle.work_stamp.specs.declared.stamped.KeyedEntry.{KeyedEntry}
 use Rattle.work_stamp.specs.declared.task.Begin.TheVariants.{Take}
-use Rattle.node_pool.specs.Laws.{IsBest}
+use Rattle.node_pool.specs.Laws.{IsBestOpen}
 use Rattle.node_pool.specs.Views.{View, view_of}
 use Rattle.node_pool.specs.declared.settings.SearchSettings.{SearchSettings}
 use Rattle.task_steps.specs.Rules.{begin_of}
@@ -15,7 +15,7 @@ use Rattle.task_steps.specs.declared.local.Local.{Local}
 pub record TakesBest (v : View) (entries : List Entry) : Type 0 where
   pub name : ℕ
   pub entry : entries ≡ Start name ∷ []
-  pub best : IsBest v name
+  pub best : IsBestOpen v name
 
 -- at every history
 abbrev pub BestIsTaken : Type 0
