@@ -1,0 +1,12 @@
+pub mod Parting
+pub mod Numbers
+pub mod ItemRuns
+pub mod LineWords
+pub mod NumberTexts
+pub mod PlainWords
+pub mod ItemTexts
+pub mod FormsRead
+pub mod FormsAgain
+pub mod LineTexts
+pub mod Exactly
+pub mod Examples

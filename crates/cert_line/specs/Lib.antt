@@ -1,0 +1,5 @@
+pub mod Words
+pub mod Numerals
+pub mod Items
+pub mod Readings
+pub mod Lines
