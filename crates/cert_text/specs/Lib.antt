@@ -1,0 +1,5 @@
+pub mod Certificates
+pub mod Places
+pub mod Readings
+pub mod Refusals
+pub mod Laws
