@@ -1,0 +1,5 @@
+pub mod Examples
+pub mod Faultless
+pub mod Truth
+pub mod Walking
+pub mod Looping

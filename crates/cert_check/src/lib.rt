@@ -1,0 +1,19 @@
+//! The checker: whether a certificate shows what it says of a model.
+//!
+//! It judges the lines of a certificate in order, and goes through the tree with one box, which each split narrows and
+//! which is put back behind the split's children. A leaf is tried on a copy of the box.
+#![tactic(auto)]
+
+mod branch;
+mod checker;
+mod laws;
+mod lines;
+mod nodes;
+#[cfg(test)]
+mod tests;
+mod verdict;
+mod walk;
+
+pub use checker::check;
+pub use laws::{accepted_is_faultless, accepted_is_true};
+pub use verdict::{Verdict, Why};
