@@ -1,0 +1,9 @@
+pub mod Examples
+pub mod Finished
+pub mod Holding
+pub mod Partings
+pub mod RecordPlaces
+pub mod RecordsNamed
+pub mod Searches
+pub mod Stacks
+pub mod WholeTrees
