@@ -1,9 +1,12 @@
 -- How what was found becomes the end of a run.
-use Rattle.std.proofs.Common.{◌≡◌, ◌∙◌, ℕ, List, Result, Ok, Err, refl, sym, ap, subst}
+use Rattle.std.proofs.Common.{◌≡◌, ◌∙◌, ◌^◌, ℕ, List, Result, Ok, Err, refl, sym, ap, subst}
 use Rattle.mps_model.specs.declared.model.MpsModel.{MpsModel}
-use Rattle.xsearch.specs.ModelFiles.{IsFileFailure, IsFileJob, IsModelFile, OfModel, NoModel}
+use Rattle.tree_cert.specs.declared.certificate.Certificate.{Certificate}
+use Rattle.xsearch.specs.CertificateFiles.{IsCertificateFailure, IsCertificateFile}
+use Rattle.xsearch.specs.FileJobs.{IsFileJob, NoContent, OfContent}
+use Rattle.xsearch.specs.ModelFiles.{IsModelFailure, IsModelFile}
 use Rattle.xsearch.specs.Runs.{Ends}
-use Rattle.xsearch.specs.Shelves.{IsOneRead}
+use Rattle.xsearch.specs.Shelves.{IsBytesFailure, IsOneRead}
 use Rattle.xsearch.specs.Writes.{IsWritten, AllWritten, OneFailed, OneUnwritten, write_failure}
 use Rattle.xsearch_words.proofs.OutputWrites.{none_written}
 use Rattle.xsearch_words.specs.Outputs.{AreLeftBy}
@@ -15,7 +18,7 @@ use Rattle.xsearch_words.specs.declared.error.OutputError.TheVariants as unwritt
 use Rattle.xsearch_words.specs.declared.output.OutputFile.{OutputFile}
 use Rattle.xsearch.specs.declared.output.Output.{Output}
 use Rattle.xsearch.specs.declared.output.Failure.{Failure}
-use Rattle.xsearch.specs.declared.output.Failure.TheVariants.{ReadFailed}
+use Rattle.xsearch.specs.declared.output.Failure.TheVariants.{Words, Length, Mps, Model, Cert, ReadFailed, WriteFailed, Memory}
 
 abbrev failed : (A : Type 0) → Failure → Result A Failure
 failed A failure = Err failure
@@ -24,7 +27,7 @@ abbrev found : {A : Type 0} → A → Result A Failure
 found a = Ok a
 
 -- what was found is no failed read
-found_is_read : {A : Type 0} (a : A) → found a ≡ failed A ReadFailed → ⊥
+pub found_is_read : {A : Type 0} (a : A) → found a ≡ failed A ReadFailed → ⊥
 found_is_read a e = cc
 
 same_failure : (A : Type 0) (f g : Failure) → failed A f ≡ failed A g → f ≡ g
@@ -34,25 +37,77 @@ same_failure A f g e = cc
 other_failure : (A B : Type 0) (f : Failure) → (failed A f ≡ failed A ReadFailed → ⊥) → failed B f ≡ failed B ReadFailed → ⊥
 other_failure A B f other e = other (ap (failed A) (same_failure B f ReadFailed e))
 
--- what is found of a model that a file reads as
-pub of_model : (next : MpsModel → Result Output Failure → Type 0) (old new : ShelfState) (name : List ℕ) (mps : MpsModel) (result : Result Output Failure)
-    → IsModelFile old name mps → IsOneRead old new → ((found mps ≡ failed MpsModel ReadFailed → ⊥) → HasNoFault old new) → next mps result
-    → IsFileJob next old new name result
-of_model next old new name mps result file read quiet comes = record {
-  read = read;
-  of_file = OfModel (record { mps = mps; file = file; comes = comes });
-  quiet = λ other. quiet (found_is_read mps);
-}
+module _ {C : Type 0} (IsReadAs : ShelfState → List ℕ → C → Type 0)
+    (IsFailure : ShelfState → ShelfState → List ℕ → Failure → Type 0) where
+  -- what is found of what a file is read as
+  pub of_content : (next : C → Result Output Failure → Type 0) (old new : ShelfState) (name : List ℕ) (content : C)
+      (result : Result Output Failure) → IsReadAs old name content → IsOneRead old new
+      → ((found content ≡ failed C ReadFailed → ⊥) → HasNoFault old new) → next content result
+      → IsFileJob IsReadAs IsFailure next old new name result
+  of_content next old new name content result file read quiet comes = record {
+    read = read;
+    of_file = OfContent (record { content = content; file = file; comes = comes });
+    quiet = λ other. quiet (found_is_read content);
+  }
 
--- what is found where a file gives no model
+  -- what is found where a file gives nothing
+  pub of_no_content : (next : C → Result Output Failure → Type 0) (old new : ShelfState) (name : List ℕ) (failure : Failure)
+      → IsFailure old new name failure → IsOneRead old new
+      → ((failed C failure ≡ failed C ReadFailed → ⊥) → HasNoFault old new)
+      → IsFileJob IsReadAs IsFailure next old new name (Err failure)
+  of_no_content next old new name failure cause read quiet = record {
+    read = read;
+    of_file = NoContent (record { failure = failure; is = refl; cause = cause });
+    quiet = λ other. quiet (other_failure Output C failure other);
+  }
+
+-- what is found of a model that a file reads as
+pub of_model : (next : MpsModel → Result Output Failure → Type 0) (old new : ShelfState) (name : List ℕ) (content : MpsModel)
+    (result : Result Output Failure) → IsModelFile old name content → IsOneRead old new
+    → ((found content ≡ failed MpsModel ReadFailed → ⊥) → HasNoFault old new) → next content result → IsFileJob IsModelFile IsModelFailure next old new name result
+of_model = of_content IsModelFile IsModelFailure
+
+-- and where there is none
 pub of_no_model : (next : MpsModel → Result Output Failure → Type 0) (old new : ShelfState) (name : List ℕ) (failure : Failure)
-    → IsFileFailure old new name failure → IsOneRead old new → ((failed MpsModel failure ≡ failed MpsModel ReadFailed → ⊥) → HasNoFault old new)
-    → IsFileJob next old new name (Err failure)
-of_no_model next old new name failure cause read quiet = record {
-  read = read;
-  of_file = NoModel (record { failure = failure; is = refl; cause = cause });
-  quiet = λ other. quiet (other_failure Output MpsModel failure other);
-}
+    → IsModelFailure old new name failure → IsOneRead old new
+    → ((failed MpsModel failure ≡ failed MpsModel ReadFailed → ⊥) → HasNoFault old new) → IsFileJob IsModelFile IsModelFailure next old new name (Err failure)
+of_no_model = of_no_content IsModelFile IsModelFailure
+
+-- what is found of a certificate that a file reads as
+pub of_certificate : (next : Certificate → Result Output Failure → Type 0) (old new : ShelfState) (name : List ℕ) (content : Certificate)
+    (result : Result Output Failure) → IsCertificateFile old name content → IsOneRead old new
+    → ((found content ≡ failed Certificate ReadFailed → ⊥) → HasNoFault old new) → next content result → IsFileJob IsCertificateFile IsCertificateFailure next old new name result
+of_certificate = of_content IsCertificateFile IsCertificateFailure
+
+-- and where there is none
+pub of_no_certificate : (next : Certificate → Result Output Failure → Type 0) (old new : ShelfState) (name : List ℕ) (failure : Failure)
+    → IsCertificateFailure old new name failure → IsOneRead old new
+    → ((failed Certificate failure ≡ failed Certificate ReadFailed → ⊥) → HasNoFault old new) → IsFileJob IsCertificateFile IsCertificateFailure next old new name (Err failure)
+of_no_certificate = of_no_content IsCertificateFile IsCertificateFailure
+
+-- a file without bytes gives no model
+pub no_bytes_no_model : (old new : ShelfState) (name : List ℕ) (failure : Failure)
+    → IsBytesFailure (2 ^ 24) old new name failure → IsModelFailure old new name failure
+no_bytes_no_model old new name Words cause = cause
+no_bytes_no_model old new name Length cause = cause
+no_bytes_no_model old new name (Mps line kind) cause = absurd cause
+no_bytes_no_model old new name (Model reason) cause = cause
+no_bytes_no_model old new name (Cert line kind) cause = cause
+no_bytes_no_model old new name ReadFailed cause = cause
+no_bytes_no_model old new name (WriteFailed place) cause = cause
+no_bytes_no_model old new name Memory cause = cause
+
+-- and no certificate
+pub no_bytes_no_certificate : (old new : ShelfState) (name : List ℕ) (failure : Failure)
+    → IsBytesFailure (2 ^ 28) old new name failure → IsCertificateFailure old new name failure
+no_bytes_no_certificate old new name Words cause = cause
+no_bytes_no_certificate old new name Length cause = cause
+no_bytes_no_certificate old new name (Mps line kind) cause = cause
+no_bytes_no_certificate old new name (Model reason) cause = cause
+no_bytes_no_certificate old new name (Cert line kind) cause = absurd cause
+no_bytes_no_certificate old new name ReadFailed cause = cause
+no_bytes_no_certificate old new name (WriteFailed place) cause = cause
+no_bytes_no_certificate old new name Memory cause = cause
 
 -- a failure has no files
 pub nothing_to_write : (failure : Failure) (state : ShelfState) → IsWritten (Err failure) state state (Err failure)

@@ -1,6 +1,7 @@
 -- What a true answer of an admitted model says of its points and of the file.
-use Rattle.std.proofs.Common.{◌≡◌, ℕ, ◌^◌, Bool, true, false, if◌then◌else◌, ℤ, pos, neg_ℤ, ◌+ℤ◌, ◌*ℤ◌, Option, Some, None, sym, ap, subst, arith}
+use Rattle.std.proofs.Common.{◌≡◌, ℕ, ◌^◌, Bool, true, false, if◌then◌else◌, List, ℤ, pos, neg_ℤ, ◌+ℤ◌, ◌*ℤ◌, Option, Some, None, sym, ap, subst, arith}
 use Rattle.std.proofs.lemmas.Int.{ints}
+use Rattle.cert_check.specs.Verdicts.{IsShown}
 use Rattle.ip_core.specs.Truth.{value_at}
 use Rattle.ip_core.specs.declared.model.ModelParts.{ModelParts}
 use Rattle.mps_model.specs.MpsModels.{IsMpsModel}
@@ -18,7 +19,7 @@ use Rattle.width_admit.proofs.FilePoints.{admission_keeps_points}
 use Rattle.width_admit.proofs.FileRows.{neg_product}
 use Rattle.width_admit.proofs.FileValues.{admission_keeps_values}
 use Rattle.xsearch.specs.Answer.{HasOneEach}
-use Rattle.xsearch.specs.FileAnswers.{IsFileObjective, IsSolutionFound, IsTrueOfFile, IsTrueStatusOfFile}
+use Rattle.xsearch.specs.FileAnswers.{IsFileObjective, IsSolutionFound, IsTrueOfFile, IsTruePointOfFile, IsTrueStatusOfFile}
 
 found_one_each : (m : ModelParts) (best : Option Best) → IsFound m best → HasOneEach m best
 found_one_each m None found = tt
@@ -82,3 +83,8 @@ module _ (mps : MpsModel) (upper : Option ℕ) (m : ModelParts) (valid : IsMpsMo
     told = status_of_file answer.status answer.best truth.told;
     objective = status_objective answer.status answer.best truth.told;
   }
+
+  -- a certificate that says the truth of the admitted model says it of the file's
+  pub point_of_file : (v : ℤ) (point : Option (List ℤ)) → IsShown m v point → IsTruePointOfFile mps upper point
+  point_of_file v None none = (admission_keeps_answers mps upper m valid admits).none.1 none
+  point_of_file v (Some x) best = ((admission_keeps_answers mps upper m valid admits).best x).1 best.0

@@ -6,37 +6,39 @@ use Rattle.mps_model.specs.declared.model.MpsModel.{MpsModel}
 use Rattle.task_steps.specs.LimitCauses.{IsLimitCause}
 use Rattle.task_steps.specs.Truth.{IsTrueAnswer}
 use Rattle.task_steps.specs.declared.answer.Answer.{Answer}
-use Rattle.width_admit.specs.Admission.{Admits, refusal}
-use Rattle.width_admit.specs.declared.refusal.Refusal.{Refusal}
+use Rattle.tree_build.specs.Certificates.{proof_of}
+use Rattle.tree_build.specs.Laws.{IsProofIfMade}
+use Rattle.width_admit.specs.Admission.{Admits}
 use Rattle.sample_model.specs.Samples.{generated_model}
 use Rattle.xsearch_words.specs.Jobs.{job}
 use Rattle.xsearch_words.specs.Shelf.{ShelfState}
 use Rattle.xsearch_words.specs.declared.job.Job.{Job}
-use Rattle.xsearch_words.specs.declared.job.Job.TheVariants.{Solve, Alone, Show, Gen}
+use Rattle.xsearch_words.specs.declared.job.Job.TheVariants.{Solve, Alone, Check, Show, Gen}
 use Rattle.xsearch_words.specs.declared.job.SolveJob.{SolveJob}
 use Rattle.xsearch.specs.Answer.{answer_text}
+use Rattle.xsearch.specs.Checks.{IsCheckedFile}
 use Rattle.xsearch.specs.Endings.{exit_of}
+use Rattle.xsearch.specs.FileJobs.{IsFileJob}
 use Rattle.xsearch.specs.FileAnswers.{IsTrueOfFile}
-use Rattle.xsearch.specs.ModelFiles.{IsFileJob}
+use Rattle.xsearch.specs.ModelFiles.{IsModelFailure, IsModelFile, IsRefusal}
 use Rattle.xsearch.specs.Searches.{limits_of, machine_answer, machine_history, settings_of}
 use Rattle.xsearch.specs.Writes.{IsWritten, solve_files}
 use Rattle.xsearch.specs.declared.output.Output.{Output}
 use Rattle.xsearch.specs.declared.output.Failure.{Failure}
-use Rattle.xsearch.specs.declared.output.Failure.TheVariants.{Words, Model, Memory}
+use Rattle.xsearch.specs.declared.output.Failure.TheVariants.{Words, Memory}
 use Rattle.xsearch.specs.declared.status.ExitStatus.TheVariants.{Done}
 
--- An answer of a model, and what solving the model finds. The answer is that of the machine's
--- search with these tasks and limits. The rest is said of it whatever found it: its status and text
--- are those of the run, it is true of the model, and the status of a limit has its cause.
+-- An answer of a model, and what solving the model finds: that of the machine's search. The rest is
+-- said of it whatever found it: it is true, and the checker accepts its certificate.
 pub record IsAnswer (m : ModelParts) (asked : SolveJob) (answer : Answer)
     (output : Output) : Type 0 where
   pub machine : answer ≡ machine_answer m asked.tune
   pub exit : output.exit ≡ exit_of answer.status
   pub text : output.text ≡ answer_text m answer.status answer.best
-  pub files : output.files ≡ solve_files asked (machine_history m asked.tune) answer.status
+  pub files : output.files ≡ solve_files m asked (machine_history m asked.tune) answer
   pub truth : IsTrueAnswer m answer
-  pub limit : IsLimitCause m (settings_of asked.tune) (limits_of asked.tune)
-      answer.status
+  pub proof : IsProofIfMade m (proof_of m (machine_history m asked.tune) answer)
+  pub limit : IsLimitCause m (settings_of asked.tune) (limits_of asked.tune) answer.status
 
 -- the answer of the model that a file's model is admitted as, which is true of the file's own model
 pub record IsFileAnswer (asked : SolveJob) (mps : MpsModel)
@@ -48,13 +50,6 @@ pub record IsFileAnswer (asked : SolveJob) (mps : MpsModel)
   pub admits : Admits mps asked.default_upper m
   pub of_model : IsAnswer m asked answer output
   pub of_file : IsTrueOfFile mps asked.default_upper m answer
-
--- the reason why a file's model isn't admitted
-pub record IsRefusal (upper : Option ℕ) (mps : MpsModel)
-    (found : Result Output Failure) : Type 0 where
-  pub reason : Refusal
-  pub is : found ≡ Err (Model reason)
-  pub refused : refusal mps upper ≡ Some reason
 
 -- what solving a file's model finds: its answer, why it isn't admitted, or no memory, which is free
 pub data IsSolved (asked : SolveJob) (mps : MpsModel)
@@ -72,13 +67,12 @@ pub data IsPrinted (mps : MpsModel) (found : Result Output Failure) : Type 0 whe
   Canonical : found ≡ Ok (printed (canonical_text mps)) → IsPrinted mps found
   Unprinted : found ≡ Err Memory → IsPrinted mps found
 
--- What solving comes to: it is found by one read of the file that is asked for, and the files of
--- what was found are written.
+-- what solving comes to: it is found by one read of the file, and its files are written
 pub record IsSolvedFile (asked : SolveJob) (old new : ShelfState)
     (ended : Result Output Failure) : Type 0 where
   pub between : ShelfState
   pub found : Result Output Failure
-  pub solved : IsFileJob (IsSolved asked) old between asked.model found
+  pub solved : IsFileJob IsModelFile IsModelFailure (IsSolved asked) old between asked.model found
   pub written : IsWritten found between new ended
 
 -- what printing a sample model finds, without a call of the shelf
@@ -91,7 +85,9 @@ pub record IsPrintedSample (number : ℕ) (old new : ShelfState)
 abbrev pub IsCausedBy : Job → ShelfState → ShelfState → Result Output Failure → Type 0
 IsCausedBy (Solve asked) old new ended = IsSolvedFile asked old new ended
 IsCausedBy (Alone asked) old new ended = IsSolvedFile asked old new ended
-IsCausedBy (Show model) old new ended = IsFileJob IsPrinted old new model ended
+IsCausedBy (Check asked) old new ended = IsCheckedFile asked old new ended
+IsCausedBy (Show model) old new ended =
+    IsFileJob IsModelFile IsModelFailure IsPrinted old new model ended
 IsCausedBy (Gen number) old new ended = IsPrintedSample number old new ended
 
 -- words ask for a job, and what it comes to has its cause

@@ -1,16 +1,17 @@
 use Rattle.std.specs.Prelude.{ℕ, ◌≡◌, List, Result, Ok, Err}
+use Rattle.cert_text.specs.Refusals.{kind_number as certificate_kind_number}
 use Rattle.mps_read.specs.KindNumbers.{kind_number}
 use Rattle.width_admit.specs.KindNumbers.{kind_of, index_of}
 use Rattle.xsearch_words.specs.Faults.{HasRisen, next_count}
 use Rattle.xsearch_words.specs.Sink.{GrowsBy, GrowsByFront, SinkState}
-use Rattle.xsearch.specs.Refusals.{words_refusal, length_refusal, mps_refusal, model_refusal}
+use Rattle.xsearch.specs.Refusals.{words_refusal, length_refusal, mps_refusal, model_refusal, certificate_refusal}
 use Rattle.task_steps.specs.declared.answer.Status.{Status}
 use Rattle.task_steps.specs.declared.answer.Status.TheVariants as search
 use Rattle.xsearch.specs.declared.output.Output.{Output}
 use Rattle.xsearch.specs.declared.output.Failure.{Failure}
-use Rattle.xsearch.specs.declared.output.Failure.TheVariants.{Words, Length, Mps, Model, ReadFailed, WriteFailed, Memory}
+use Rattle.xsearch.specs.declared.output.Failure.TheVariants.{Words, Length, Mps, Model, Cert, ReadFailed, WriteFailed, Memory}
 use Rattle.xsearch.specs.declared.status.ExitStatus.{ExitStatus}
-use Rattle.xsearch.specs.declared.status.ExitStatus.TheVariants.{Done, WorkLimit, StoreLimit, RefusedWords, RefusedInput, ShelfFailed, SinkFailed, NoMemory}
+use Rattle.xsearch.specs.declared.status.ExitStatus.TheVariants.{Done, WorkLimit, StoreLimit, RefusedWords, RefusedInput, ShelfFailed, SinkFailed, NoMemory, Rejected}
 
 -- the number of a status
 abbrev pub code_of : ExitStatus → ℕ
@@ -22,6 +23,7 @@ code_of RefusedInput = 5
 code_of ShelfFailed = 6
 code_of SinkFailed = 7
 code_of NoMemory = 8
+code_of Rejected = 9
 
 -- one put, by which the text went out whole
 pub record IsWhole (old new : SinkState) (text : List ℕ) (meant status : ExitStatus) : Type 0 where
@@ -70,6 +72,8 @@ FailsAs (Mps line kind) old new status =
     IsPut old new (mps_refusal line (kind_number kind)) RefusedInput status
 FailsAs (Model reason) old new status =
     IsPut old new (model_refusal (kind_of reason) (index_of reason)) RefusedInput status
+FailsAs (Cert line kind) old new status =
+    IsPut old new (certificate_refusal line (certificate_kind_number kind)) RefusedInput status
 FailsAs ReadFailed old new status = IsSilent old new ShelfFailed status
 FailsAs (WriteFailed place) old new status = IsSilent old new ShelfFailed status
 FailsAs Memory old new status = IsSilent old new NoMemory status

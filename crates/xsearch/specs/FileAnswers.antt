@@ -1,5 +1,5 @@
 -- What an answer says of a file's model, by the file's own bounds, rows and objective.
-use Rattle.std.specs.Prelude.{ℕ, ◌≡◌, ◌^◌, pos, ◌*ℤ◌, Option, Some, None}
+use Rattle.std.specs.Prelude.{ℕ, ◌≡◌, ◌^◌, List, ℤ, pos, ◌*ℤ◌, Option, Some, None}
 use Rattle.ip_core.specs.declared.model.ModelParts.{ModelParts}
 use Rattle.mps_model.specs.declared.model.MpsModel.{MpsModel}
 use Rattle.task_steps.specs.declared.answer.Answer.{Answer}
@@ -25,6 +25,11 @@ IsTrueStatusOfFile mps upper Optimal best = HasBestSolution mps upper best
 IsTrueStatusOfFile mps upper Infeasible best = HasNoSolution mps upper
 IsTrueStatusOfFile mps upper StoreLimit best = IsSolutionFound mps upper best
 IsTrueStatusOfFile mps upper WorkLimit best = IsSolutionFound mps upper best
+
+-- the point of a certificate is a best solution of the file's model; with no point there is none
+abbrev pub IsTruePointOfFile : MpsModel → Option ℕ → Option (List ℤ) → Type 0
+IsTruePointOfFile mps upper None = HasNoSolution mps upper
+IsTruePointOfFile mps upper (Some x) = IsBestSolution mps upper x
 
 -- The objective that is printed with a point is the file's own: the model counts it in units of ten
 -- to the power of minus the decimals, and the file in units of 10^-18.

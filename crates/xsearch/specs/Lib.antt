@@ -1,7 +1,10 @@
 pub mod Answer
 pub mod Causes
+pub mod CertificateFiles
+pub mod Checks
 pub mod Endings
 pub mod FileAnswers
+pub mod FileJobs
 pub mod ModelFiles
 pub mod Refusals
 pub mod Runs

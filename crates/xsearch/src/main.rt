@@ -2,6 +2,9 @@
 #![tactic(auto)]
 
 mod answer;
+mod certificate_file;
+mod check;
+mod file_bytes;
 mod files;
 mod generate;
 mod model_file;
@@ -14,6 +17,7 @@ mod solve;
 mod status;
 
 pub use answer::answer_text;
+pub use check::check_command;
 pub use generate::gen_command;
 pub use run::run;
 pub use show::show_command;
@@ -46,5 +50,7 @@ fn command_words(rt: &(impl Env + AllocGlobal)) -> io::Result<Vec<String>> {
     Ok(words)
 }
 
+#[cfg(test)]
+mod certificate_tests;
 #[cfg(test)]
 mod tests;

@@ -1,4 +1,5 @@
 use crate::status::ExitStatus;
+use cert_text::CertKind;
 use ip_core::{List, Text};
 use mps_read::MpsKind;
 use thiserror::Error;
@@ -29,6 +30,9 @@ pub enum Failure {
     /// A model isn't admitted.
     #[error("refused model: {0:?}")]
     Model(Refusal),
+    /// The first line of a certificate that isn't allowed, and why.
+    #[error("refused certificate line {line}: {kind:?}")]
+    Cert { line: u32, kind: CertKind },
     /// A read failed.
     #[error("a file could not be read")]
     ReadFailed,

@@ -3,11 +3,13 @@ ghost use Rattle.mps_read.specs.KindNumbers.{kind_number};
 ghost use Rattle.width_admit.specs.KindNumbers.{index_of, kind_of};
 ghost use Rattle.xsearch.specs.Endings.{EndsAs, FailsAs, IsPut};
 ghost use Rattle.xsearch.specs.Runs.{Ends};
-ghost use Rattle.xsearch.specs.Refusals.{model_refusal as model_refusal_of, mps_refusal as mps_refusal_of};
+ghost use Rattle.cert_text.specs.Refusals.{kind_number as certificate_kind_number};
+ghost use Rattle.xsearch.specs.Refusals.{certificate_refusal as certificate_refusal_of, model_refusal as model_refusal_of, mps_refusal as mps_refusal_of};
 
 use crate::output::{Failure, Output};
-use crate::refusal::{model_refusal, mps_refusal};
+use crate::refusal::{certificate_refusal, model_refusal, mps_refusal};
 use crate::status::{ExitStatus, exit_code};
+use cert_text::CertKind;
 use ip_core::OutOfMemory;
 use mps_read::MpsKind;
 use std::alloc::Global;
@@ -39,6 +41,7 @@ fn report_failure<O: Sink>(alloc: Global, failure: Failure, out: &mut O) -> Exit
         Failure::Length => put(alloc, out, b"refused length\n", ExitStatus::RefusedInput),
         Failure::Mps { line, kind } => put_mps_refusal(alloc, out, line, kind),
         Failure::Model(error) => put_model_refusal(alloc, out, error),
+        Failure::Cert { line, kind } => put_certificate_refusal(alloc, out, line, kind),
         Failure::ReadFailed => ExitStatus::ShelfFailed,
         Failure::WriteFailed { .. } => ExitStatus::ShelfFailed,
         Failure::Memory => ExitStatus::NoMemory,
@@ -60,6 +63,22 @@ fn put_model_refusal<O: Sink>(alloc: Global, out: &mut O, refusal: Refusal) -> E
         (model_refusal_of (kind_of refusal) (index_of refusal)) ExitStatus.RefusedInput result }
 {
     match model_refusal(alloc, refusal) {
+        Ok(text) => put(alloc, out, text.as_slice(), ExitStatus::RefusedInput),
+        Err(OutOfMemory) => ExitStatus::NoMemory,
+    }
+}
+
+fn put_certificate_refusal<O: Sink>(
+    alloc: Global,
+    out: &mut O,
+    line: u32,
+    kind: CertKind,
+) -> ExitStatus
+    ensures { IsPut (O.state out.old) (O.state out.new)
+        (certificate_refusal_of line (certificate_kind_number kind))
+        ExitStatus.RefusedInput result }
+{
+    match certificate_refusal(alloc, line, kind) {
         Ok(text) => put(alloc, out, text.as_slice(), ExitStatus::RefusedInput),
         Err(OutOfMemory) => ExitStatus::NoMemory,
     }

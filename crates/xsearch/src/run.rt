@@ -4,6 +4,7 @@ ghost use Rattle.xsearch.specs.Causes.{IsCaused, IsCausedBy};
 ghost use Rattle.xsearch.specs.Runs.{Ends};
 ghost use Rattle.xsearch_words.specs.Jobs.{IsJob};
 
+use crate::check::check_command;
 use crate::generate::gen_command;
 use crate::output::Failure;
 use crate::report::finish;
@@ -15,15 +16,18 @@ use xsearch_words::{Job, JobError, Shelf, Sink, settings};
 /// Does the one command that the words ask for, and answers the exit status.
 ///
 /// `solve MODEL` and `alone MODEL` read the model file MODEL from the shelf, admit it, search it,
-/// write the log to the file NAME of `--log=NAME`, where it is given, and put the answer on the
-/// sink; `--tasks=N` sets the number of slots that search, `--work=N` and `--store=N` their limits,
-/// and `--default-upper=N` the upper bound of columns that have none. `show MODEL` puts the
-/// canonical text of the file's model, and `gen NUMBER` that of a sample model.
+/// write the certificate of a finished search to the file NAME of `--cert=NAME` and the log to that
+/// of `--log=NAME`, where these are given, and put the answer on the sink; `--tasks=N` sets the
+/// number of slots that search, `--work=N` and `--store=N` their limits, and `--default-upper=N` the
+/// upper bound of columns that have none. `check MODEL CERT` reads the model file, admits it, reads
+/// the certificate file CERT and puts whether the checker accepts it. `show MODEL` puts the canonical
+/// text of the file's model, and `gen NUMBER` that of a sample model.
 ///
-/// The status is 0 where an optimal or infeasible answer or a canonical text went out, 2 where the
-/// words ask nothing, 3 and 4 where the limit on work or the store ended the search, 5 where the
-/// file is too long, a line of it isn't allowed or its model isn't admitted, 6 where a read or a
-/// write failed, 7 where the put failed, and 8 where memory could not be had.
+/// The status is 0 where an optimal or infeasible answer, an acceptance or a canonical text went out,
+/// 2 where the words ask nothing, 3 and 4 where the limit on work or the store ended the search, 5
+/// where a file is too long, a line of it isn't allowed or its model isn't admitted, 6 where a read
+/// or a write failed, 7 where the put failed, 8 where memory could not be had, and 9 where the
+/// certificate is rejected.
 ///
 /// A text goes out by one put, after all files are written. After 6 and 8 nothing has gone out and
 /// some first files are written; after 7 all are, and a front of the text has gone out. No other
@@ -47,6 +51,7 @@ fn run_job<S: Shelf, O: Sink>(alloc: Global, job: &Job, shelf: &mut S, out: &mut
     match job {
         Job::Solve(job) => solve_alone(alloc, job, shelf, out),
         Job::Alone(job) => solve_alone(alloc, job, shelf, out),
+        Job::Check(job) => check_command(alloc, job, shelf, out),
         Job::Show(model) => show_command(alloc, model, shelf, out),
         Job::Gen(number) => gen_command(alloc, *number, out),
     }

@@ -1,7 +1,8 @@
 ghost use Rattle.std.specs.Prelude.{◌≡◌};
 ghost use Rattle.mps_model.specs.MpsModels.{IsMpsModel};
 ghost use Rattle.xsearch.specs.Causes.{IsCausedBy, IsPrinted};
-ghost use Rattle.xsearch.specs.ModelFiles.{IsFileJob};
+ghost use Rattle.xsearch.specs.FileJobs.{IsFileJob};
+ghost use Rattle.xsearch.specs.ModelFiles.{IsModelFailure, IsModelFile};
 ghost use Rattle.xsearch.specs.Runs.{Ends};
 ghost use Rattle.xsearch_words.specs.declared.job.Job.TheVariants.{Show};
 
@@ -35,7 +36,8 @@ pub fn show_command<S: Shelf, O: Sink>(
 /// Prints the model of a file, which isn't admitted: its canonical text, or why there is none.
 #[tactic(auto, using(crate::proofs::Running::of_model, crate::proofs::Running::of_no_model))]
 fn show_file<S: Shelf>(alloc: Global, model: &Text, shelf: &mut S) -> Result<Output, Failure>
-    ensures { IsFileJob IsPrinted (S.state shelf.old) (S.state shelf.new) model.now result }
+    ensures { IsFileJob IsModelFile IsModelFailure IsPrinted
+        (S.state shelf.old) (S.state shelf.new) model.now result }
 {
     match read_model(alloc, model, shelf) {
         Ok(mps) => show_model(alloc, &mps),

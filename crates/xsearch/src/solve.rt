@@ -1,14 +1,17 @@
-ghost use Rattle.std.specs.Prelude.{◌≡◌, IfOk};
+ghost use Rattle.std.specs.Prelude.{◌≡◌, ◌++◌, IfOk, OnOk};
 ghost use Rattle.ip_core.specs.declared.model.ModelParts.{ModelParts};
 ghost use Rattle.mps_model.specs.MpsModels.{IsMpsModel};
 ghost use Rattle.stamp_machine.specs.Limits.{AreLimits};
 ghost use Rattle.task_steps.specs.Answers.{splits_alone};
+ghost use Rattle.task_steps.specs.Truth.{IsHistory};
+ghost use Rattle.tree_build.specs.Certificates.{proof_of};
 ghost use Rattle.width_admit.specs.Admission.{IsCause};
 ghost use Rattle.xsearch.specs.Causes.{IsAnswer, IsSolved, IsSolvedFile};
-ghost use Rattle.xsearch.specs.ModelFiles.{IsFileJob, IsSmall};
+ghost use Rattle.xsearch.specs.FileJobs.{IsFileJob};
+ghost use Rattle.xsearch.specs.ModelFiles.{IsModelFailure, IsModelFile, IsSmall};
 ghost use Rattle.xsearch.specs.Runs.{Ends};
 ghost use Rattle.xsearch.specs.Searches.{limits_of as limits_of_tune, machine_answer, settings_of as settings_of_tune};
-ghost use Rattle.xsearch.specs.Writes.{solve_files as solve_files_of};
+ghost use Rattle.xsearch.specs.Writes.{certificate_file, log_file, solve_files as solve_files_of};
 ghost use Rattle.xsearch_words.specs.Jobs.{IsSolveJob};
 ghost use Rattle.xsearch_words.specs.Tunes.{IsTune};
 
@@ -18,26 +21,25 @@ use crate::model_file::read_model;
 use crate::output::{Failure, Output};
 use crate::report::finish;
 use crate::status::exit_status;
-use ip_core::{List, Model, OutOfMemory};
+use cert_text::print;
+use ip_core::{List, Model, OutOfMemory, Text};
 use log_text::log_text;
 use mps_read::MpsModel;
 use node_pool::SearchSettings;
 use stamp_machine::{History, Limits, run_alone};
 use std::alloc::Global;
-use task_steps::{Search, Status, answer_of, answers_are_true, histories_are_read, limits_are_met};
+use task_steps::{
+    Answer, Search, Status, answer_of, answers_are_true, histories_are_read, limits_are_met,
+};
+use tree_build::{build, finished_searches_are_accepted};
 use width_admit::{AdmitError, admit};
 use xsearch_words::{OutputFile, Shelf, Sink, SolveJob, Tune};
 
-/// Does the commands `solve` and `alone`, and answers the exit status: reads the model of a file,
-/// admits it, searches it by as many slots as there are tasks, writes the log where it is asked
-/// for, and puts the answer, or the one refusal line. Columns without a high get `default_upper`,
-/// where it is given.
+/// Does the commands `solve` and `alone`, and answers the exit status: reads and admits the model of
+/// a file, searches it, writes certificate and log, and puts the answer, or the one refusal line.
 ///
-/// The status is 0 where the answer is optimal or infeasible, 3 where the limit on counted work
-/// ended the search and 4 where the store of a slot did, 5 where the file is too long, a line of it
-/// is refused or its model isn't admitted, 6 where the read or the write failed, 7 where the put
-/// failed, and 8 where memory could not be had. The log is whole after 0, 3, 4 and 7. After 6 it
-/// may hold a front of its text, and after 8 it is whole or as before.
+/// The status is 0 where the answer is optimal or infeasible, and else 3 to 8 as `run` says. The files
+/// are whole after 0, 3, 4 and 7; after 6 and 8 some first ones are, and after 6 the next in part.
 pub fn solve_alone<S: Shelf, O: Sink>(
     alloc: Global,
     job: &SolveJob,
@@ -57,7 +59,7 @@ pub fn solve_alone<S: Shelf, O: Sink>(
 #[tactic(auto, using(crate::proofs::Running::of_model, crate::proofs::Running::of_no_model))]
 fn solve_file<S: Shelf>(alloc: Global, job: &SolveJob, shelf: &mut S) -> Result<Output, Failure>
     requires { IsTune job.now.tune }
-    ensures { IsFileJob (IsSolved job.now)
+    ensures { IsFileJob IsModelFile IsModelFailure (IsSolved job.now)
         (S.state shelf.old) (S.state shelf.new) job.now.model result }
 {
     match read_model(alloc, &job.model, shelf) {
@@ -105,9 +107,10 @@ fn answer(alloc: Global, model: Model, job: &SolveJob) -> Result<Output, OutOfMe
     histories_are_read(&search, &limits);
     answers_are_true(&search, &limits);
     limits_are_met(&search, &limits);
+    finished_searches_are_accepted(&search, &limits);
     let answer = answer_of(alloc, search.model(), &history)?;
     let text = answer_text(alloc, search.model(), &answer)?;
-    let files = solve_files(alloc, job, &history, answer.status)?;
+    let files = solve_files(alloc, job, search.model(), &history, &answer)?;
     Ok(Output {
         files,
         text,
@@ -115,28 +118,70 @@ fn answer(alloc: Global, model: Model, job: &SolveJob) -> Result<Output, OutOfMe
     })
 }
 
-/// The files that are asked for, in their order: the log of the history.
+/// The files that are asked for, in their order: the certificate of a finished search, and the log.
 fn solve_files(
     alloc: Global,
     job: &SolveJob,
+    model: &Model,
     history: &History,
-    status: Status,
+    answer: &Answer,
 ) -> Result<List<OutputFile>, OutOfMemory>
-    requires { IsTune job.now.tune }
-    ensures { IfOk result (λ files. files ≡ solve_files_of job.now history.now status) }
+    requires tune { IsTune job.now.tune }
+    requires history { IsHistory model.now history.now.entries }
+    ensures { IfOk result (λ files. files ≡
+        solve_files_of model.now job.now history.now answer.now) }
 {
     let mut files = List::new(alloc);
+    add_certificate(alloc, &mut files, &job.cert, model, history, answer)?;
+    add_log(alloc, &mut files, job, history, answer.status)?;
+    Ok(files)
+}
+
+/// Adds the file of the certificate, if the search is finished and the file is given a name.
+fn add_certificate(
+    alloc: Global,
+    files: &mut List<OutputFile>,
+    name: &Option<Text>,
+    model: &Model,
+    history: &History,
+    answer: &Answer,
+) -> Result<(), OutOfMemory>
+    requires { IsHistory model.now history.now.entries }
+    ensures { OnOk result (files.new ≡ files.old ++ certificate_file name.now
+        (proof_of model.now history.now answer.now)) }
+{
+    let Some(name) = name else {
+        return Ok(());
+    };
+    let Some(certificate) = build(alloc, model, history, answer)? else {
+        return Ok(());
+    };
+    files.push(OutputFile {
+        name: name.copy(alloc)?,
+        text: print(alloc, &certificate)?,
+    })
+}
+
+/// Adds the file of the log, if it is given a name.
+fn add_log(
+    alloc: Global,
+    files: &mut List<OutputFile>,
+    job: &SolveJob,
+    history: &History,
+    status: Status,
+) -> Result<(), OutOfMemory>
+    requires { IsTune job.now.tune }
+    ensures { OnOk result (files.new ≡ files.old ++ log_file job.now history.now status) }
+{
     let Some(name) = &job.log else {
-        return Ok(files);
+        return Ok(());
     };
     let limits = limits_of(&job.tune);
     let settings = settings_of(&job.tune);
-    let text = log_text(alloc, &limits, settings, history, status_word(status))?;
     files.push(OutputFile {
         name: name.copy(alloc)?,
-        text,
-    })?;
-    Ok(files)
+        text: log_text(alloc, &limits, settings, history, status_word(status))?,
+    })
 }
 
 /// A slot for each task, each with the limits that are set.

@@ -14,6 +14,7 @@ pub enum ExitStatus {
     ShelfFailed = 6,
     SinkFailed = 7,
     NoMemory = 8,
+    Rejected = 9,
 }
 
 /// The number of a status.

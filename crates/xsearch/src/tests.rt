@@ -5,13 +5,13 @@ use std::test::Fail;
 use xsearch_words::{MemoryShelf, MemorySink, SureShelf, SureSink};
 
 /// One column, one cost.
-const ONE: &[u8] =
+pub(crate) const ONE: &[u8] =
     b"NAME one\nROWS\n N c\nCOLUMNS\n M 'MARKER' 'INTORG'\n x c 1\nBOUNDS\n UP b x 1\nENDATA\n";
 
 const ONE_SHOWN: &[u8] =
     b"NAME one\nROWS\n N c\nCOLUMNS\n M 'MARKER' 'INTORG'\n x c 1\n M 'MARKER' 'INTEND'\nBOUNDS\n UP BND x 1\nENDATA\n";
 
-const ONE_UNENDED: &[u8] =
+pub(crate) const ONE_UNENDED: &[u8] =
     b"NAME one\nROWS\n N c\nCOLUMNS\n M 'MARKER' 'INTORG'\n x c 1\nBOUNDS\n UP b x 1\n";
 
 const ONE_REPEATED: &[u8] =
@@ -25,11 +25,11 @@ const THREE: &[u8] =
     b"NAME three\nROWS\n N c\n L a\n L b\n L d\nCOLUMNS\n M 'MARKER' 'INTORG'\n x c -5 a 2\n x b 4 d 3\n y c -4 a 3\n y b 1 d 4\n z c -3 a 1\n z b 2 d 2\n M 'MARKER' 'INTEND'\nRHS\n r a 5 b 11\n r d 8\nBOUNDS\n UP k x 3\n UP k y 3\n UP k z 3\nENDATA\n";
 
 /// 2x = 3 in whole numbers.
-const ODD: &[u8] =
+pub(crate) const ODD: &[u8] =
     b"NAME odd\nROWS\n N c\n E a\nCOLUMNS\n M 'MARKER' 'INTORG'\n x c 1 a 2\n M 'MARKER' 'INTEND'\nRHS\n r a 3\nBOUNDS\n UP k x 5\nENDATA\n";
 
 /// 2x >= 3.
-const COVER: &[u8] =
+pub(crate) const COVER: &[u8] =
     b"NAME cover\nROWS\n N c\n G a\nCOLUMNS\n M 'MARKER' 'INTORG'\n x c 1 a 2\n M 'MARKER' 'INTEND'\nRHS\n r a 3\nBOUNDS\n UP k x 5\nENDATA\n";
 
 /// 7x + 7y + 7z >= 8.
@@ -41,7 +41,7 @@ const PAIR: &[u8] =
     b"NAME pair\nROWS\n N c\n E a\nCOLUMNS\n M 'MARKER' 'INTORG'\n x a 1\n y a 1\n M 'MARKER' 'INTEND'\nRHS\n r a 2\nBOUNDS\n UP k x 1\n UP k y 1\nENDATA\n";
 
 /// 2x + 2y + 2z = 3 in 0 to 1 without costs.
-const HALVES: &[u8] =
+pub(crate) const HALVES: &[u8] =
     b"NAME halves\nROWS\n N c\n E a\nCOLUMNS\n M 'MARKER' 'INTORG'\n x a 2\n y a 2\n z a 2\n M 'MARKER' 'INTEND'\nRHS\n r a 3\nBOUNDS\n UP k x 1\n UP k y 1\n UP k z 1\nENDATA\n";
 
 /// An equality row of 5 with the range -2: from 3 to 5.
@@ -52,7 +52,7 @@ const RANGE_MAX: &[u8] =
     b"NAME range\nOBJSENSE\n MAX\nROWS\n N c\n E a\nCOLUMNS\n M 'MARKER' 'INTORG'\n x c 1 a 1\n M 'MARKER' 'INTEND'\nRHS\n r a 5\nRANGES\n g a -2\nBOUNDS\n UP k x 9\nENDATA\n";
 
 /// The column has no bound.
-const UNBOUNDED: &[u8] =
+pub(crate) const UNBOUNDED: &[u8] =
     b"NAME open\nROWS\n N c\n L a\nCOLUMNS\n M 'MARKER' 'INTORG'\n x c -1 a 1\n M 'MARKER' 'INTEND'\nRHS\n r a 20\nENDATA\n";
 
 const UNBOUNDED_SHOWN: &[u8] =
@@ -95,15 +95,15 @@ struct Case {
     output: &'static [u8],
 }
 
-fn text(alloc: Global, bytes: &[u8]) -> Result<Text, OutOfMemory> {
+pub(crate) fn text(alloc: Global, bytes: &[u8]) -> Result<Text, OutOfMemory> {
     Ok(Text::of(Vec::from_slice(alloc, bytes)?))
 }
 
-fn numbers(alloc: Global, values: &[u64]) -> Result<List<u64>, OutOfMemory> {
+pub(crate) fn numbers(alloc: Global, values: &[u64]) -> Result<List<u64>, OutOfMemory> {
     Ok(List::of(Vec::from_slice(alloc, values)?))
 }
 
-fn words(alloc: Global, line: &str) -> Result<Vec<String>, OutOfMemory> {
+pub(crate) fn words(alloc: Global, line: &str) -> Result<Vec<String>, OutOfMemory> {
     let mut words = Vec::new(alloc);
     for word in line.split_whitespace() {
         words.push(String::from_str(alloc, word)?)?;
@@ -416,7 +416,7 @@ struct Broken {
     faults: (u64, u64),
 }
 
-const LOG_WITHOUT_WORK: &[u8] =
+pub(crate) const LOG_WITHOUT_WORK: &[u8] =
     b"xsearch log 1\ntasks 1 work 0 store 4194304 cuts no heuristics no\nend 0 0\nstatus worklimit\n";
 
 const BROKEN: [Broken; 6] = [
@@ -572,7 +572,7 @@ status worklimit
     },
 ];
 
-const LOG_OF_HALVES: &[u8] = b"xsearch log 1
+pub(crate) const LOG_OF_HALVES: &[u8] = b"xsearch log 1
 tasks 1 work 200000000 store 4194304 cuts no heuristics no
 0 0 start 0
 217 0 split 0 0 0 4 0 0

@@ -2,12 +2,13 @@
 use Rattle.std.proofs.Common.{ℕ, ◌≡◌, false, List, [], ◌∷◌, Option, Some, None, codes, refl}
 use Rattle.xsearch_words.specs.Jobs.{job}
 use Rattle.xsearch_words.specs.declared.job.Job.{Job}
-use Rattle.xsearch_words.specs.declared.job.Job.TheVariants.{Solve, Alone, Show, Gen}
+use Rattle.xsearch_words.specs.declared.job.Job.TheVariants.{Solve, Alone, Check, Show, Gen}
 use Rattle.xsearch_words.specs.declared.job.SolveJob.{SolveJob}
 
 abbrev search : List ℕ → ℕ → ℕ → ℕ → Option ℕ → SolveJob
 search model tasks work store default_upper = record {
   model = model;
+  cert = None;
   log = None;
   tune = record { tasks = tasks; work = work; store = store; cuts = false; heuristics = false };
   default_upper = default_upper;
@@ -15,6 +16,9 @@ search model tasks work store default_upper = record {
 
 abbrev with_log : List ℕ → SolveJob → SolveJob
 with_log name asked = record asked { log = Some name }
+
+abbrev with_cert : List ℕ → SolveJob → SolveJob
+with_cert name asked = record asked { cert = Some name }
 
 abbrev solve : List ℕ → ℕ → Option ℕ → Option Job
 solve model work default_upper = Some (Solve (search model 4 work 1048576 default_upper))
@@ -129,6 +133,27 @@ log_with_a_dash = refl
 
 two_logs : job (codes "solve" ∷ codes "m3" ∷ codes "--log=a" ∷ codes "--log=b" ∷ []) ≡ None
 two_logs = refl
+
+certificate : job (codes "solve" ∷ codes "m3" ∷ codes "--cert=c" ∷ codes "--log=l" ∷ []) ≡ Some (Solve (with_cert (codes "c") (with_log (codes "l") (search (codes "m3") 4 200000000 1048576 None))))
+certificate = refl
+
+certificate_named_as_the_model : job (codes "alone" ∷ codes "m3" ∷ codes "--cert=m3" ∷ []) ≡ None
+certificate_named_as_the_model = refl
+
+certificate_named_as_the_log : job (codes "solve" ∷ codes "m3" ∷ codes "--cert=a" ∷ codes "--log=a" ∷ []) ≡ None
+certificate_named_as_the_log = refl
+
+check : job (codes "check" ∷ codes "m" ∷ codes "c" ∷ []) ≡ Some (Check (record { model = codes "m"; cert = codes "c"; default_upper = None }))
+check = refl
+
+check_with_upper : job (codes "check" ∷ codes "m" ∷ codes "--default-upper=3" ∷ codes "m" ∷ []) ≡ Some (Check (record { model = codes "m"; cert = codes "m"; default_upper = Some 3 }))
+check_with_upper = refl
+
+check_of_one_name : job (codes "check" ∷ codes "m" ∷ []) ≡ None
+check_of_one_name = refl
+
+certificate_of_another : job (codes "check" ∷ codes "m" ∷ codes "c" ∷ codes "--cert=d" ∷ []) ≡ None
+certificate_of_another = refl
 
 log_of_another : job (codes "show" ∷ codes "m" ∷ codes "--log=l" ∷ []) ≡ None
 log_of_another = refl

@@ -1,15 +1,16 @@
 -- The commands of the program: their words, keys and counts of names.
 use Rattle.std.specs.Prelude.{ℕ, List, [], ◌∷◌, codes, Option, Some, None, if◌then◌else◌, bytes_eq}
 use Rattle.xsearch_words.specs.declared.command.Command.{Command}
-use Rattle.xsearch_words.specs.declared.command.Command.TheVariants.{Solve, Alone, Show, Gen}
+use Rattle.xsearch_words.specs.declared.command.Command.TheVariants.{Solve, Alone, Check, Show, Gen}
 use Rattle.xsearch_words.specs.declared.command.Key.{Key}
-use Rattle.xsearch_words.specs.declared.command.Key.TheVariants.{Tasks, Work, Store, DefaultUpper, Log}
+use Rattle.xsearch_words.specs.declared.command.Key.TheVariants.{Tasks, Work, Store, DefaultUpper, Cert, Log}
 
 -- the command of a word
 abbrev pub command_of : List ℕ → Option Command
 command_of word =
     if bytes_eq word (codes "solve") then Some Solve
     else if bytes_eq word (codes "alone") then Some Alone
+    else if bytes_eq word (codes "check") then Some Check
     else if bytes_eq word (codes "show") then Some Show
     else if bytes_eq word (codes "gen") then Some Gen
     else None
@@ -18,17 +19,19 @@ command_of word =
 abbrev pub name_count : Command → ℕ
 name_count Solve = 1
 name_count Alone = 1
+name_count Check = 2
 name_count Show = 1
 name_count Gen = 1
 
 -- the keys of a command that searches
 abbrev pub search_keys : List Key
-search_keys = Tasks ∷ Work ∷ Store ∷ DefaultUpper ∷ Log ∷ []
+search_keys = Tasks ∷ Work ∷ Store ∷ DefaultUpper ∷ Cert ∷ Log ∷ []
 
 -- the keys of the command
 abbrev pub keys_of : Command → List Key
 keys_of Solve = search_keys
 keys_of Alone = search_keys
+keys_of Check = DefaultUpper ∷ []
 keys_of Show = []
 keys_of Gen = []
 
@@ -38,4 +41,5 @@ front Tasks = codes "--tasks="
 front Work = codes "--work="
 front Store = codes "--store="
 front DefaultUpper = codes "--default-upper="
+front Cert = codes "--cert="
 front Log = codes "--log="

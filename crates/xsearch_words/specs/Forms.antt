@@ -1,5 +1,5 @@
 -- The form of the words that follow a command: names and options.
-use Rattle.std.specs.Prelude.{ℕ, ◌≢◌, IsTrue, bytes_eq, Bool, false, not, ◌||◌, ◌&&◌, ◌==◌, nat_le, nat_eq, if◌then◌else◌, List, [], ◌∷◌, length, drop, Option, Some, None, is_some, filter, filter_map}
+use Rattle.std.specs.Prelude.{ℕ, ◌≢◌, IsTrue, bytes_eq, Bool, true, false, not, ◌||◌, ◌&&◌, ◌==◌, nat_le, nat_eq, if◌then◌else◌, List, [], ◌∷◌, length, drop, Option, Some, None, is_some, filter, filter_map}
 use Rattle.std.specs.List.{list_all, list_any, starts_with, slice_get}
 use Rattle.xsearch_words.specs.Commands.{name_count, keys_of, front}
 use Rattle.xsearch_words.specs.declared.command.Command.{Command}
@@ -21,6 +21,12 @@ abbrev pub other_name : List ℕ → Option (List ℕ) → Option (Option (List 
 other_name taken None = Some None
 other_name taken (Some value) =
     if is_name value && not (bytes_eq value taken) then Some (Some value) else None
+
+-- whether two names, where both are given, differ
+abbrev pub names_differ : Option (List ℕ) → Option (List ℕ) → Bool
+names_differ None other = true
+names_differ (Some name) None = true
+names_differ (Some name) (Some other) = not (bytes_eq name other)
 
 -- the names among the words, in order
 abbrev pub names : List (List ℕ) → List (List ℕ)
@@ -51,9 +57,13 @@ value key words = slice_get (values key words) 0
 abbrev pub is_known : List Key → List ℕ → Bool
 is_known keys word = is_name word || list_any (gives_value word) keys
 
+-- the words that give the key a value, in order
+abbrev pub words_of : Key → List (List ℕ) → List (List ℕ)
+words_of key words = filter (λ word. gives_value word key) words
+
 -- the key has at most one value
 abbrev pub is_single : List (List ℕ) → Key → Bool
-is_single words key = nat_le (length (values key words)) 1
+is_single words key = nat_le (length (words_of key words)) 1
 
 -- The words have the command's form: each is a name or gives one of its keys a value, there are as
 -- many names as it has, and each of its keys has at most one value.

@@ -1,28 +1,45 @@
 -- What the words of the command line ask.
 use Rattle.std.specs.Prelude.{ℕ, ◌≡◌, ◌≤◌, ◌-◌, ◌^◌, ⊤, List, [], ◌∷◌, Option, Some, None, option_map, if◌then◌else◌, IfSome, IsTrue}
 use Rattle.xsearch_words.specs.Commands.{command_of}
-use Rattle.xsearch_words.specs.Forms.{IsOtherName, has_form, is_name, name_at, other_name, value}
+use Rattle.xsearch_words.specs.Forms.{IsOtherName, has_form, is_name, name_at, names_differ, other_name, value}
 use Rattle.xsearch_words.specs.Numbers.{number_between, optional_number}
 use Rattle.xsearch_words.specs.Options.{when_some}
 use Rattle.xsearch_words.specs.Tunes.{IsTune, tune_in}
 use Rattle.xsearch_words.specs.declared.command.Command.{Command}
 use Rattle.xsearch_words.specs.declared.command.Command.TheVariants as command
-use Rattle.xsearch_words.specs.declared.command.Key.TheVariants.{DefaultUpper, Log}
+use Rattle.xsearch_words.specs.declared.command.Key.TheVariants.{DefaultUpper, Cert, Log}
 use Rattle.xsearch_words.specs.declared.error.JobError.{JobError}
 use Rattle.xsearch_words.specs.declared.error.JobError.TheVariants.{Words}
 use Rattle.xsearch_words.specs.declared.job.Job.{Job}
-use Rattle.xsearch_words.specs.declared.job.Job.TheVariants.{Solve, Alone, Show, Gen}
+use Rattle.xsearch_words.specs.declared.job.Job.TheVariants.{Solve, Alone, Check, Show, Gen}
 use Rattle.xsearch_words.specs.declared.job.SolveJob.{SolveJob}
+use Rattle.xsearch_words.specs.declared.job.CheckJob.{CheckJob}
 
--- `MODEL [--tasks=N] [--work=N] [--store=N] [--default-upper=N] [--log=NAME]` after `solve` or
--- `alone`, with names that differ
+-- `MODEL [--tasks=N] [--work=N] [--store=N] [--default-upper=N] [--cert=NAME] [--log=NAME]` after
+-- `solve` or `alone`, with names that differ
 abbrev pub solve_job : List (List ℕ) → Option SolveJob
 solve_job words =
     when_some (name_at 0 words) (λ model.
+    when_some (other_name model (value Cert words)) (λ cert.
     when_some (other_name model (value Log words)) (λ log.
     when_some (tune_in words) (λ tune.
     when_some (optional_number 0 (2 ^ 31) (value DefaultUpper words)) (λ default_upper.
-    Some (record { model = model; log = log; tune = tune; default_upper = default_upper })))))
+    if names_differ cert log
+    then Some (record {
+      model = model;
+      cert = cert;
+      log = log;
+      tune = tune;
+      default_upper = default_upper;
+    }) else None)))))
+
+-- `MODEL CERT [--default-upper=N]` after `check`
+abbrev pub check_job : List (List ℕ) → Option CheckJob
+check_job words =
+    when_some (name_at 0 words) (λ model.
+    when_some (name_at 1 words) (λ cert.
+    when_some (optional_number 0 (2 ^ 31) (value DefaultUpper words)) (λ default_upper.
+    Some (record { model = model; cert = cert; default_upper = default_upper }))))
 
 -- `gen NUMBER`
 abbrev pub gen_number : List (List ℕ) → Option ℕ
@@ -32,6 +49,7 @@ gen_number words = when_some (name_at 0 words) (number_between 0 (2 ^ 64 - 1))
 abbrev pub command_job : Command → List (List ℕ) → Option Job
 command_job command.Solve words = option_map Solve (solve_job words)
 command_job command.Alone words = option_map Alone (solve_job words)
+command_job command.Check words = option_map Check (check_job words)
 command_job command.Show words = option_map Show (name_at 0 words)
 command_job command.Gen words = option_map Gen (gen_number words)
 
@@ -52,13 +70,22 @@ IsJobCause words error = error ≡ Words → job words ≡ None
 -- the limits of what `solve` or `alone` is asked
 pub record IsSolveJob (asked : SolveJob) : Type 0 where
   pub model : IsTrue (is_name asked.model)
+  pub cert : IfSome asked.cert (IsOtherName asked.model)
   pub log : IfSome asked.log (IsOtherName asked.model)
+  pub apart : IsTrue (names_differ asked.cert asked.log)
   pub tune : IsTune asked.tune
+  pub default_upper : IfSome asked.default_upper (λ upper. upper ≤ 2 ^ 31)
+
+-- the limits of what `check` is asked
+pub record IsCheckJob (asked : CheckJob) : Type 0 where
+  pub model : IsTrue (is_name asked.model)
+  pub cert : IsTrue (is_name asked.cert)
   pub default_upper : IfSome asked.default_upper (λ upper. upper ≤ 2 ^ 31)
 
 -- the limits of what words can ask
 abbrev pub IsJob : Job → Type 0
 IsJob (Solve asked) = IsSolveJob asked
 IsJob (Alone asked) = IsSolveJob asked
+IsJob (Check asked) = IsCheckJob asked
 IsJob (Show model) = IsTrue (is_name model)
 IsJob (Gen number) = ⊤

@@ -6,6 +6,7 @@ ghost use Rattle.xsearch_words.specs.Commands.{command_of, front as front_of, ke
 pub(crate) enum Command {
     Solve,
     Alone,
+    Check,
     Show,
     Gen,
 }
@@ -17,6 +18,7 @@ pub(crate) enum Key {
     Work,
     Store,
     DefaultUpper,
+    Cert,
     Log,
 }
 
@@ -29,6 +31,8 @@ impl Command {
             Some(Command::Solve)
         } else if word == b"alone".as_slice() {
             Some(Command::Alone)
+        } else if word == b"check".as_slice() {
+            Some(Command::Check)
         } else if word == b"show".as_slice() {
             Some(Command::Show)
         } else if word == b"gen".as_slice() {
@@ -43,6 +47,7 @@ impl Command {
         ensures { result ≡ name_count self }
     {
         match self {
+            Command::Check => 2,
             Command::Solve | Command::Alone | Command::Show | Command::Gen => 1,
         }
     }
@@ -57,8 +62,10 @@ impl Command {
                 Key::Work,
                 Key::Store,
                 Key::DefaultUpper,
+                Key::Cert,
                 Key::Log,
             ],
+            Command::Check => &[Key::DefaultUpper],
             Command::Show | Command::Gen => &[],
         }
     }
@@ -74,6 +81,7 @@ impl Key {
             Key::Work => b"--work=",
             Key::Store => b"--store=",
             Key::DefaultUpper => b"--default-upper=",
+            Key::Cert => b"--cert=",
             Key::Log => b"--log=",
         }
     }

@@ -2,7 +2,7 @@ ghost use Rattle.std.specs.Prelude.{◌≡◌, map, length, IfSome, IsTrue};
 ghost use Rattle.std.specs.List.{list_all, list_any};
 ghost use Rattle.std.specs.Option.{option_copied};
 ghost use Rattle.std.specs.String.{string_bytes};
-ghost use Rattle.xsearch_words.specs.Forms.{gives_value as gives_value_of, has_form as has_form_of, is_known as is_known_of, is_name as is_name_of, is_single as is_single_of, name_at as name_at_of, names, value as value_of, value_in as value_in_of, values};
+ghost use Rattle.xsearch_words.specs.Forms.{gives_value as gives_value_of, has_form as has_form_of, is_known as is_known_of, is_name as is_name_of, words_of, is_single as is_single_of, name_at as name_at_of, names, value as value_of, value_in as value_in_of};
 
 use crate::command::{Command, Key};
 
@@ -81,7 +81,7 @@ fn is_single(words: &[String], key: Key) -> bool
 }
 
 fn count_values(words: &[String], key: Key) -> usize
-    ensures { result ≡ length (values key (map string_bytes words.now)) }
+    ensures { result ≡ length (words_of key (map string_bytes words.now)) }
 {
     let mut count = 0;
     for word in words {

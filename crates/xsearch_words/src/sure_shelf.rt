@@ -15,7 +15,7 @@ pub struct SureShelf {
 }
 
 impl SureShelf {
-    ghost use Rattle.xsearch_words.specs.SureShelf.{files_of};
+    ghost use Rattle.xsearch_words.specs.SureShelf.{files_of, state_of};
 
     /// A shelf without files.
     pub fn new(alloc: Global) -> SureShelf
@@ -31,6 +31,7 @@ impl SureShelf {
     pub fn set(&mut self, name: Text, bytes: List<u8>) -> Result<(), OutOfMemory>
         ensures ok { OnOk result (files_of self.new ≡ with_file name bytes (files_of self.old)) }
         ensures err { OnErr result (files_of self.new ≡ files_of self.old) }
+        ensures calls { (state_of self.new).calls ≡ (state_of self.old).calls }
     {
         self.files.set(name, bytes)
     }

@@ -373,6 +373,10 @@ enum Want {
     Alone(&'static str, Tune, Option<u32>),
     // To solve a model as it is set without options, with a log of this name.
     Logged(&'static str, &'static str),
+    // To solve a model as it is set without options, with a certificate and a log of these names.
+    Certified(&'static str, &'static str, &'static str),
+    // To check the certificate of a model, in files of these names.
+    Check(&'static str, &'static str, Option<u32>),
     Show(&'static str),
     Gen(u64),
 }
@@ -435,7 +439,7 @@ const LEAST_STORE: Tune = Tune {
     heuristics: false,
 };
 
-const CASES: [Case; 45] = [
+const CASES: [Case; 55] = [
     (&["solve", "m3"], Want::Solve("m3", PLAIN, None)),
     (
         &["solve", "--work=007", "m3"],
@@ -479,6 +483,22 @@ const CASES: [Case; 45] = [
     (&["solve", "m3", "--log"], Want::Nothing),
     (&["solve", "m3", "--log=a", "--log=b"], Want::Nothing),
     (&["show", "m", "--log=l"], Want::Nothing),
+    (
+        &["solve", "--cert=c", "m3", "--log=l"],
+        Want::Certified("m3", "c", "l"),
+    ),
+    (&["solve", "m3", "--cert=m3"], Want::Nothing),
+    (&["alone", "m3", "--cert=a", "--log=a"], Want::Nothing),
+    (&["alone", "m3", "--cert=-"], Want::Nothing),
+    (&["check", "m3", "c"], Want::Check("m3", "c", None)),
+    (&["check", "c", "c"], Want::Check("c", "c", None)),
+    (
+        &["check", "m3", "--default-upper=3", "c"],
+        Want::Check("m3", "c", Some(3)),
+    ),
+    (&["check", "m3"], Want::Nothing),
+    (&["check", "m3", "c", "--cert=d"], Want::Nothing),
+    (&["check", "m3", "c", "--tasks=1"], Want::Nothing),
     (&["show", "m"], Want::Show("m")),
     (&["gen", "01"], Want::Gen(1)),
     (&["gen", "18446744073709551615"], Want::Gen(u64::MAX)),
@@ -521,11 +541,21 @@ fn is_search(job: &SolveJob, model: &str, tune: Tune, default_upper: Option<u32>
         && job.default_upper == default_upper
 }
 
-fn has_log(job: &SolveJob, name: &str) -> bool {
-    match &job.log {
-        Some(log) => log.as_slice() == name.as_bytes(),
+fn is_name(name: &Option<Text>, want: &str) -> bool {
+    match name {
+        Some(name) => name.as_slice() == want.as_bytes(),
         None => false,
     }
+}
+
+fn has_no_files(job: &SolveJob) -> bool {
+    job.cert.is_none() && job.log.is_none()
+}
+
+fn is_check(job: &CheckJob, model: &str, cert: &str, default_upper: Option<u32>) -> bool {
+    job.model.as_slice() == model.as_bytes()
+        && job.cert.as_slice() == cert.as_bytes()
+        && job.default_upper == default_upper
 }
 
 // Whether the words ask what is wanted.
@@ -536,13 +566,21 @@ fn asks(alloc: Global, case: Case) -> Result<bool, OutOfMemory> {
     }
     Ok(match (settings(alloc, words.as_slice()), case.1) {
         (Ok(Job::Solve(job)), Want::Solve(model, tune, upper)) => {
-            is_search(&job, model, tune, upper) && job.log.is_none()
+            is_search(&job, model, tune, upper) && has_no_files(&job)
         }
         (Ok(Job::Alone(job)), Want::Alone(model, tune, upper)) => {
-            is_search(&job, model, tune, upper) && job.log.is_none()
+            is_search(&job, model, tune, upper) && has_no_files(&job)
         }
         (Ok(Job::Solve(job)), Want::Logged(model, log)) => {
-            is_search(&job, model, PLAIN, None) && has_log(&job, log)
+            is_search(&job, model, PLAIN, None) && job.cert.is_none() && is_name(&job.log, log)
+        }
+        (Ok(Job::Solve(job)), Want::Certified(model, cert, log)) => {
+            is_search(&job, model, PLAIN, None)
+                && is_name(&job.cert, cert)
+                && is_name(&job.log, log)
+        }
+        (Ok(Job::Check(job)), Want::Check(model, cert, upper)) => {
+            is_check(&job, model, cert, upper)
         }
         (Ok(Job::Show(model)), Want::Show(want)) => model.as_slice() == want.as_bytes(),
         (Ok(Job::Gen(number)), Want::Gen(want)) => number == want,
