@@ -1,0 +1,4 @@
+pub mod Feasible
+pub mod Rounds
+pub mod Dives
+pub mod Laws
