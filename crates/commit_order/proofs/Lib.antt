@@ -1,0 +1,11 @@
+pub mod Examples
+pub mod KeyOrder
+pub mod Heaps
+pub mod FirstKeys
+pub mod LeastKeys
+pub mod Orders
+pub mod Queues
+pub mod LeastEntries
+pub mod Feeding
+pub mod Taking
+pub mod Waiting
