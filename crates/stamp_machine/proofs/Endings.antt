@@ -12,9 +12,10 @@ use Rattle.work_stamp.specs.declared.stamped.KeyedEntry.{KeyedEntry}
 use Rattle.work_stamp.specs.declared.task.Begin.{Begin}
 use Rattle.work_stamp.specs.declared.task.Begin.TheVariants.{Take, Idle, End}
 use Rattle.stamp_machine.specs.Endings.{is_halt, has_halt, entries_of, HasNoOwnHalt, begin_entries, due_entries, IsFullAt, HasHalt, HaltsHaveCauses, IsOverOnFront, IsEndCause, EndsHaveCauses, Spent, Full, NothingLeft}
-use Rattle.stamp_machine.specs.Machine.{State, Turn, turn_of_begin, slot_after_chunk, final, first, fits, slot_after_idle, slot_after_join, last, move_next, move_of, moves, turn, turn_while_live, word_count}
+use Rattle.stamp_machine.specs.Machine.{State, turn_of_begin, slot_after_chunk, final, first, fits, slot_after_idle, slot_after_join, last, move_next, move_of, moves, turn, turn_while_live, word_count}
 use Rattle.stamp_machine.specs.Slots.{at, key_of, next_slot}
 use Rattle.stamp_machine.specs.declared.limits.Limits.{Limits}
+use Rattle.stamp_machine.specs.declared.opening.Turn.{Turn}
 use Rattle.stamp_machine.specs.declared.slot.Slot.{Slot}
 use Rattle.stamp_machine.specs.declared.slot.Live.{Live}
 use Rattle.stamp_machine.proofs.Choices.{by_test}

@@ -12,16 +12,17 @@ use Rattle.work_stamp.specs.declared.key.Key.{Key}
 use Rattle.work_stamp.specs.declared.stamped.KeyedEntry.{KeyedEntry}
 use Rattle.stamp_machine.specs.Limits.{AreLimits}
 use Rattle.stamp_machine.specs.Slots.{at, key_of, fresh_slot, next_slot}
-use Rattle.stamp_machine.specs.Machine.{Turn, State, turn, after_turn, move_next, move_of, moves, last, final}
+use Rattle.stamp_machine.specs.Machine.{State, turn, after_turn, move_next, move_of, moves, last, final}
 use Rattle.stamp_machine.specs.Kept.{HasRisen, IsPast}
 use Rattle.stamp_machine.specs.Laws.{HasRisingClocks, HasRisingKeys, HasLastMove, HasLesserKeysBefore, ArePlayed}
 use Rattle.stamp_machine.specs.Orders.{IsLess, IsNotLess, Each, AreInOrder, IsSorted}
 use Rattle.stamp_machine.specs.Runs.{below, of_slot, turn_in, state_of, entries_by, one_if, count_of}
 use Rattle.stamp_machine.specs.declared.limits.Limits.{Limits}
+use Rattle.stamp_machine.specs.declared.opening.Turn.{Turn}
 use Rattle.stamp_machine.specs.declared.slot.Slot.{Slot}
 use Rattle.stamp_machine.specs.declared.slot.Live.{Live}
 use Rattle.stamp_machine.proofs.Least.{IsNext, next_is}
-use Rattle.stamp_machine.proofs.Orders.{less_test, not_less_test, less_trans, not_less, not_less_trans, each_append, each_map, each_under, in_order_append, filter_all, filter_none, set_each}
+use Rattle.stamp_machine.proofs.Orders.{less_test, not_less_test, less_trans, not_less, not_less_trans, each_append, each_map, each_under, in_order_append, in_order_filtered, filter_all, filter_none, set_each}
 use Rattle.stamp_machine.proofs.Playing.{next_state}
 use Rattle.stamp_machine.proofs.Standings.{kept, moves_stand, fresh_at}
 use Rattle.stamp_machine.proofs.Stops.{few, stops, stays, whole}
@@ -128,6 +129,9 @@ module _ (V L : Type 0) (r : Rules V L) (FitsView : V → Type 0) (FitsLocal : L
   pub sorted : IsSorted (final r limits).entries
   sorted = record { in_order = (ordered (last limits)).in_order }
 
+  pub slot_sorted : (number : ℕ) → IsSorted (of_slot number (final r limits).entries)
+  slot_sorted number = record { in_order = in_order_filtered (λ e. nat_eq e.key.slot number) (final r limits).entries sorted.in_order }
+
   -- a state some moves later: the machine has only appended entries whose keys don't come before a key that no live slot was below
 
   pub record Later (n m : ℕ) (b : Key) (state : State L) : Type 0 where
@@ -210,11 +214,11 @@ module _ (V L : Type 0) (r : Rules V L) (FitsView : V → Type 0) (FitsLocal : L
   PlaysBy count state = (number : ℕ) (slot : Slot L) → at state.slots number ≡ Some slot →
       (slot ≡ state_of r limits H number (count number)) × (of_slot number state.entries ≡ entries_by r limits H number (count number))
 
-  other_slot : (k number : ℕ) (clock : ℕ) (es : List Entry) → (k ≡ number → ⊥) → of_slot number (under (record { stamp = clock; slot = k }) es) ≡ []
+  pub other_slot : (k number : ℕ) (clock : ℕ) (es : List Entry) → (k ≡ number → ⊥) → of_slot number (under (record { stamp = clock; slot = k }) es) ≡ []
   other_slot k number clock es ne =
       filter_none (λ e. nat_eq e.key.slot number) (under (record { stamp = clock; slot = k }) es) (each_under (λ x. nat_eq x.slot number ≡ false) (record { stamp = clock; slot = k }) es (ne_eqb k number ne))
 
-  own_slot : (k clock : ℕ) (es : List Entry) → of_slot k (under (record { stamp = clock; slot = k }) es) ≡ under (record { stamp = clock; slot = k }) es
+  pub own_slot : (k clock : ℕ) (es : List Entry) → of_slot k (under (record { stamp = clock; slot = k }) es) ≡ under (record { stamp = clock; slot = k }) es
   own_slot k clock es =
       filter_all (λ e. nat_eq e.key.slot k) (under (record { stamp = clock; slot = k }) es) (each_under (λ x. nat_eq x.slot k ≡ true) (record { stamp = clock; slot = k }) es (eq-eqb k k refl))
 

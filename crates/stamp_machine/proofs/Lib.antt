@@ -8,6 +8,7 @@ pub mod Standings
 pub mod Stops
 pub mod Joins
 pub mod Grows
+pub mod Openings
 pub mod NextSlot
 pub mod Playing
 pub mod Orders
@@ -17,3 +18,4 @@ pub mod Occurrences
 pub mod Keeping
 pub mod Endings
 pub mod Records
+pub mod Ranges

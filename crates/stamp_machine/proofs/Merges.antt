@@ -49,15 +49,23 @@ side_large_by : (b : Bool) (slot stamp number k s : ℕ) → nat_eq slot number 
 side_large_by true slot stamp number k s e h = let same : slot ≡ number = eqb-true slot number e in grind arith
 side_large_by false slot stamp number k s e h = refl
 
+side_own_by : (b : Bool) (slot stamp number k s : ℕ) → nat_eq slot number ≡ b → number ≡ k → (b && (nat_lt stamp s || (nat_eq stamp s && nat_lt slot k))) ≡ (b && nat_lt stamp s)
+side_own_by true slot stamp number k s e h = let same : slot ≡ number = eqb-true slot number e in grind arith
+side_own_by false slot stamp number k s e h = refl
+
 side_small : (slot stamp number k s : ℕ) → number < k → (nat_eq slot number && (nat_lt stamp s || (nat_eq stamp s && nat_lt slot k))) ≡ (nat_eq slot number && nat_lt stamp (s + 1))
 side_small slot stamp number k s h = side_small_by (nat_eq slot number) slot stamp number k s refl h
 
 side_large : (slot stamp number k s : ℕ) → k < number → (nat_eq slot number && (nat_lt stamp s || (nat_eq stamp s && nat_lt slot k))) ≡ (nat_eq slot number && nat_lt stamp s)
 side_large slot stamp number k s h = side_large_by (nat_eq slot number) slot stamp number k s refl h
 
+side_own : (slot stamp number k s : ℕ) → number ≡ k → (nat_eq slot number && (nat_lt stamp s || (nat_eq stamp s && nat_lt slot k))) ≡ (nat_eq slot number && nat_lt stamp s)
+side_own slot stamp number k s h = side_own_by (nat_eq slot number) slot stamp number k s refl h
+
 pub sides : (history : List KeyedEntry) (k : Key) (number : ℕ) → HasSides history k number
 sides history k number = record {
   smaller = λ h. filter_both (λ e. is_below e.key k) (λ e. nat_eq e.key.slot number) (λ e. nat_eq e.key.slot number && nat_lt e.key.stamp (k.stamp + 1)) history (λ e. side_small e.key.slot e.key.stamp number k.slot k.stamp h);
+  own = λ h. filter_both (λ e. is_below e.key k) (λ e. nat_eq e.key.slot number) (λ e. nat_eq e.key.slot number && nat_lt e.key.stamp k.stamp) history (λ e. side_own e.key.slot e.key.stamp number k.slot k.stamp h);
   larger = λ h. filter_both (λ e. is_below e.key k) (λ e. nat_eq e.key.slot number) (λ e. nat_eq e.key.slot number && nat_lt e.key.stamp k.stamp) history (λ e. side_large e.key.slot e.key.stamp number k.slot k.stamp h);
 }
 

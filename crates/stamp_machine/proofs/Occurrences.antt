@@ -10,12 +10,14 @@ use Rattle.work_stamp.specs.declared.entry.Entry.{Entry}
 use Rattle.work_stamp.specs.declared.stamped.KeyedEntry.{KeyedEntry}
 use Rattle.stamp_machine.specs.Limits.{AreLimits}
 use Rattle.stamp_machine.specs.Slots.{at, key_of, next_slot}
-use Rattle.stamp_machine.specs.Machine.{Turn, State, turn, turn_while_live, after_turn, moves, last, final}
+use Rattle.stamp_machine.specs.Machine.{State, turn, turn_while_live, after_turn, moves, last, final}
 use Rattle.stamp_machine.specs.Laws.{IsChosen, AreChosen, HaveKnownLogs, HaveKnownEnds, HaveFronts, HaveFittingLocals}
 use Rattle.stamp_machine.specs.Kept.{IsFittingWhileLive}
 use Rattle.stamp_machine.specs.Orders.{IsLess, Each}
+use Rattle.stamp_machine.specs.Ranges.{OverSlotsAreLast}
 use Rattle.stamp_machine.specs.Runs.{below, of_slot, log, turn_in, state_of, entries_by, one_if, count_of}
 use Rattle.stamp_machine.specs.declared.limits.Limits.{Limits}
+use Rattle.stamp_machine.specs.declared.opening.Turn.{Turn}
 use Rattle.stamp_machine.specs.declared.slot.Slot.{Slot}
 use Rattle.stamp_machine.specs.declared.slot.Live.{Live}
 use Rattle.stamp_machine.proofs.Least.{next_is, none_lives}
@@ -122,7 +124,7 @@ module _ (V L : Type 0) (r : Rules V L) (FitsView : V → Type 0) (FitsLocal : L
       )
 
   -- the slot of a number, and its play
-  slot_there : (n number : ℕ) → number < limits.slots → at (moves r limits n).slots number ≡ Some (state_of r limits H number (count_of r limits number n))
+  pub slot_there : (n number : ℕ) → number < limits.slots → at (moves r limits n).slots number ≡ Some (state_of r limits H number (count_of r limits number n))
   slot_there n number few =
       let s = moves_stand V L r FitsView FitsLocal MayFollow Agrees law limits ranges n in
       let x = some_at (moves r limits n).slots number (omega (arith, s.number)) in
@@ -150,25 +152,36 @@ module _ (V L : Type 0) (r : Rules V L) (FitsView : V → Type 0) (FitsLocal : L
   pub occurs : AreChosen r limits
   occurs number m live few lives = occurs_by number m live (nat_lt m (count_of r limits number (last limits))) refl few lives
 
-  ends_by : (number m : ℕ) (b : Bool) → nat_lt m (count_of r limits number (last limits)) ≡ b → number < limits.slots → (state_of r limits H number m).live ≡ None → of_slot number H ≡ entries_by r limits H number m
-  ends_by number m true e few over =
+  -- a slot that is over has made all its moves
+  past_all : (number m : ℕ) (b : Bool) → nat_lt m (count_of r limits number (last limits)) ≡ b → number < limits.slots → (state_of r limits H number m).live ≡ None → count_of r limits number (last limits) ≤ m
+  past_all number m true e few over =
       let lt : m < count_of r limits number (last limits) = grind arith in
       let f = find number m (last limits) lt in
       let x = next_is (moves r limits f.n).slots number f.next in
       let there = slot_there f.n number few ∙ ap (λ (k : ℕ). Some (state_of r limits H number k)) f.count in
       let same : x.slot ≡ state_of r limits H number m = cc (x.there, there) in
       absurd (none_some_live x.live (sym over ∙ (ap (λ (s : Slot L). s.live) (sym same) ∙ x.lives)))
-  ends_by number m false e few over =
+  past_all number m false e few over = grind arith
+
+  -- and is as it was after the last one
+  over_same : (number m : ℕ) → number < limits.slots → (state_of r limits H number m).live ≡ None →
+      (state_of r limits H number (count_of r limits number (last limits)) ≡ state_of r limits H number m) × (entries_by r limits H number (count_of r limits number (last limits)) ≡ entries_by r limits H number m)
+  over_same number m few over =
       let c = count_of r limits number (last limits) in
-      let ge : c ≤ m = grind arith in
-      let same : c + (m - c) ≡ m = omega arith in
-      let done = all_over number (state_of r limits H number c).live few refl in
-      let h = over_stays number c (m - c) done in
-      let p = played V L r FitsView FitsLocal MayFollow Agrees law limits ranges (last limits) number (state_of r limits H number c) (slot_there (last limits) number few) in
-      p.entries ∙ (sym h.1 ∙ ap (entries_by r limits H number) same)
+      let ge = past_all number m (nat_lt m c) refl few over in
+      let same : c + (m - c) ≡ m = omega (arith, ge) in
+      let h = over_stays number c (m - c) (all_over number (state_of r limits H number c).live few refl) in
+      (sym h.0 ∙ ap (state_of r limits H number) same, sym h.1 ∙ ap (entries_by r limits H number) same)
+
+  -- where a slot is over, it is that slot of the last state
+  pub over_last : OverSlotsAreLast r limits
+  over_last number m few over = slot_there (last limits) number few ∙ ap Some (over_same number m few over).0
 
   pub ends_known : HaveKnownEnds r limits
-  ends_known number m few over = ends_by number m (nat_lt m (count_of r limits number (last limits))) refl few over
+  ends_known number m few over =
+      let there = slot_there (last limits) number few in
+      let p = played V L r FitsView FitsLocal MayFollow Agrees law limits ranges (last limits) number (state_of r limits H number (count_of r limits number (last limits))) there in
+      p.entries ∙ (over_same number m few over).1
 
   entries_front : (n : ℕ) → FrontOf (moves r limits n).entries H
   entries_front n =

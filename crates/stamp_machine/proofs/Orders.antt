@@ -68,3 +68,21 @@ set_each P (z ∷ xs) zero y each new zero x e = let q : y ≡ x = cc in subst (
 set_each P (z ∷ xs) zero y each new (suc j) x e = each (suc j) x (λ h. omega arith) e
 set_each P (z ∷ xs) (suc k) y each new zero x e = each zero x (λ h. omega arith) e
 set_each P (z ∷ xs) (suc k) y each new (suc j) x e = set_each (λ i. P (suc i)) xs k y (λ i w ne h. each (suc i) w (λ q. ne (omega arith)) h) new j x e
+
+-- what is left of a list has what each item has, and is in order where the list is
+filtered_by : {A : Type 0} (P : A → Type 0) (b : Bool) (x : A) (xs : List A) → P x → Each P xs → Each P (if b then x ∷ xs else xs)
+filtered_by P true x xs p each = (p, each)
+filtered_by P false x xs p each = each
+
+pub each_filtered : {A : Type 0} (P : A → Type 0) (test : A → Bool) (xs : List A) → Each P xs → Each P (filter test xs)
+each_filtered P test [] each = tt
+each_filtered P test (x ∷ xs) each = filtered_by P (test x) x (filter test xs) each.0 (each_filtered P test xs each.1)
+
+in_order_by : (b : Bool) (x : KeyedEntry) (xs : List KeyedEntry) → Each (λ later. IsNotLess later.key x.key) xs → AreInOrder xs → AreInOrder (if b then x ∷ xs else xs)
+in_order_by true x xs later order = (later, order)
+in_order_by false x xs later order = order
+
+pub in_order_filtered : (test : KeyedEntry → Bool) (xs : List KeyedEntry) → AreInOrder xs → AreInOrder (filter test xs)
+in_order_filtered test [] order = tt
+in_order_filtered test (x ∷ xs) order =
+    in_order_by (test x) x (filter test xs) (each_filtered (λ later. IsNotLess later.key x.key) test xs order.0) (in_order_filtered test xs order.1)

@@ -8,9 +8,10 @@ use Rattle.work_stamp.specs.declared.entry.Entry.{Entry}
 use Rattle.work_stamp.specs.declared.stamped.KeyedEntry.{KeyedEntry}
 use Rattle.stamp_machine.specs.Limits.{AreLimits}
 use Rattle.stamp_machine.specs.Slots.{at, key_of, fresh_slot, fresh_slots, next_slot}
-use Rattle.stamp_machine.specs.Machine.{Turn, turn, after_turn, move_next, move_of, moves, first, as_history, history}
+use Rattle.stamp_machine.specs.Machine.{turn, after_turn, move_next, move_of, moves, first, as_history, history}
 use Rattle.stamp_machine.specs.Plays.{CanTurn, with_entries, after_move, play_of, PlaysMachine, history_of_play, moves_left_all}
 use Rattle.stamp_machine.specs.declared.limits.Limits.{Limits}
+use Rattle.stamp_machine.specs.declared.opening.Turn.{Turn}
 use Rattle.stamp_machine.specs.declared.play.Play.{Play}
 use Rattle.stamp_machine.specs.declared.play.AfterMove.{AfterMove}
 use Rattle.stamp_machine.specs.declared.play.HistoryView.{HistoryView}
@@ -60,7 +61,7 @@ module _ (V L : Type 0) (r : Rules V L) (FitsView : V → Type 0) (FitsLocal : L
     it_is : (next_is (moves r limits n).slots number next).slot ≡ slot
     it_is = let x = next_is (moves r limits n).slots number next in cc (x.there, there)
 
-    turns : CanTurn r FitsView FitsLocal MayFollow limits (play_of r (moves r limits n)).so_far number slot
+    pub turns : CanTurn r FitsView FitsLocal MayFollow limits (play_of r (moves r limits n)).so_far number slot
     turns =
         let state = moves r limits n in
         let s = moves_stand V L r FitsView FitsLocal MayFollow Agrees law limits ranges n in

@@ -12,10 +12,11 @@ use Rattle.work_stamp.specs.declared.stamped.KeyedEntry.{KeyedEntry}
 use Rattle.work_stamp.specs.declared.task.Begin.{Begin}
 use Rattle.work_stamp.specs.declared.task.Begin.TheVariants.{Take, Idle, End}
 use Rattle.stamp_machine.specs.Limits.{AreLimits}
-use Rattle.stamp_machine.specs.Machine.{State, Turn, word_count, fits, slot_after_chunk, slot_after_join, slot_after_idle, turn_of_begin, turn_after_begin, turn_while_live, turn, first, last, moves, move_next, move_of}
+use Rattle.stamp_machine.specs.Machine.{State, word_count, fits, slot_after_chunk, slot_after_join, slot_after_idle, turn_of_begin, turn_after_begin, turn_while_live, turn, first, last, moves, move_next, move_of}
 use Rattle.stamp_machine.specs.Records.{IsPart, HasStanding, IsJoinedChunk, HasChunk, HasOrigin, OfHalt, OfTake, OfChunk, RecordsHaveChunks, EntriesHaveOrigins}
 use Rattle.stamp_machine.specs.Slots.{at, key_of, slot_after_end, next_slot, standing_of}
 use Rattle.stamp_machine.specs.declared.limits.Limits.{Limits}
+use Rattle.stamp_machine.specs.declared.opening.Turn.{Turn}
 use Rattle.stamp_machine.specs.declared.slot.Slot.{Slot}
 use Rattle.stamp_machine.specs.declared.slot.Live.{Live}
 use Rattle.stamp_machine.proofs.Choices.{by_test}

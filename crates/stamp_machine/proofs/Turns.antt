@@ -2,8 +2,10 @@
 use Rattle.std.proofs.Common.{◌≡◌, ℕ, ◌+◌, ◌-◌, ◌<◌, ◌≤◌, ◌^◌, true, false, List, [], ◌∷◌, ◌++◌, length, set, get_or, Option, Some, None, refl, sym, ap, ◌∙◌, subst, append_assoc, length-append, arith}
 use Rattle.std.specs.Prelude.{nat_le}
 use Rattle.std.proofs.lemmas.List.{append-nil}
+use Rattle.std.proofs.lemmas.List.Elements.{All-append, All-cons, All-nil}
 use Rattle.work_stamp.specs.Histories.{keyed_entry, under, FollowInTurn}
-use Rattle.work_stamp.specs.Taskers.{Rules, Standing, standing, view_after, view_of, IsLawful, CanJoin}
+use Rattle.work_stamp.specs.Taskers.{Rules, Standing, standing, view_after, view_of, IsLawful, CanJoin, HaveWords}
+use Rattle.work_stamp.specs.Writable.{HasWords}
 use Rattle.work_stamp.specs.declared.entry.Entry.{Entry}
 use Rattle.work_stamp.specs.declared.entry.Entry.TheVariants.{Halt}
 use Rattle.work_stamp.specs.declared.key.Key.{Key}
@@ -11,9 +13,10 @@ use Rattle.work_stamp.specs.declared.stamped.KeyedEntry.{KeyedEntry}
 use Rattle.work_stamp.specs.declared.task.Begin.{Begin}
 use Rattle.work_stamp.specs.declared.task.Begin.TheVariants.{Take, Idle, End}
 use Rattle.stamp_machine.specs.Slots.{key_of, slot_after_end}
-use Rattle.stamp_machine.specs.Machine.{Turn, word_count, fits, slot_after_chunk, slot_after_join, slot_after_idle, turn_of_begin, turn_after_begin, turn_while_live}
+use Rattle.stamp_machine.specs.Machine.{word_count, fits, slot_after_chunk, slot_after_join, slot_after_idle, turn_of_begin, turn_after_begin, turn_while_live}
 use Rattle.stamp_machine.specs.Kept.{IsFitting, IsKept}
 use Rattle.stamp_machine.specs.declared.limits.Limits.{Limits}
+use Rattle.stamp_machine.specs.declared.opening.Turn.{Turn}
 use Rattle.stamp_machine.specs.declared.slot.Slot.{Slot}
 use Rattle.stamp_machine.specs.declared.slot.Live.{Live}
 use Rattle.stamp_machine.proofs.Choices.{by_test}
@@ -25,6 +28,19 @@ pub some_words : (es : List Entry) → length es ≤ word_count es
 some_words [] = omega arith
 some_words (e ∷ es) =
     omega (arith, some_words es)
+
+pub word_count-append : (xs ys : List Entry) → word_count (xs ++ ys) ≡ word_count xs + word_count ys
+word_count-append [] ys = omega arith
+word_count-append (x ∷ xs) ys = omega (arith, word_count-append xs ys)
+
+no_words : HaveWords []
+no_words = record { each = All-nil HasWords }
+
+halt_words : HaveWords (Halt ∷ [])
+halt_words = record { each = All-cons HasWords Halt [] (record { writable = tt; in_range = tt }) (All-nil HasWords) }
+
+words-append : (xs ys : List Entry) → HaveWords xs → HaveWords ys → HaveWords (xs ++ ys)
+words-append xs ys p q = record { each = All-append HasWords xs ys p.each q.each }
 
 module _ (V L : Type 0) (r : Rules V L) (FitsView : V → Type 0) (FitsLocal : L → Type 0) (MayFollow : List KeyedEntry → Entry → Type 0) (Agrees : List KeyedEntry → List (Option (Standing L)) → Type 0)
     (law : IsLawful r FitsView FitsLocal MayFollow Agrees) where
@@ -84,7 +100,10 @@ module _ (V L : Type 0) (r : Rules V L) (FitsView : V → Type 0) (FitsLocal : L
         fits = tt;
         rises = tt;
         left = omega arith;
+        low = λ h. h;
         few = omega arith;
+        words = no_words;
+        fills = omega arith;
         store = can.store;
       }
 
@@ -97,7 +116,10 @@ module _ (V L : Type 0) (r : Rules V L) (FitsView : V → Type 0) (FitsLocal : L
             fits = tt;
             rises = tt;
             left = omega arith;
+            low = λ h. h;
             few = omega arith;
+            words = halt_words;
+            fills = omega arith;
             store = can.store;
           }
 
@@ -134,25 +156,27 @@ module _ (V L : Type 0) (r : Rules V L) (FitsView : V → Type 0) (FitsLocal : L
       working_kept : (entries : List Entry) (slot : Slot L) (l : L) →
           FollowInTurn MayFollow history (under (key_of number old) entries) → Agrees (history ++ under (key_of number old) entries) (set slots number (standing l [])) →
           length (history ++ under (key_of number old) entries) < 2 ^ 31 → FitsLocal l → r.at_start l ≡ false →
-          slot.clock ≡ old.clock → length entries + old.words ≤ slot.words → slot.words ≤ limits.store - 4 → old.clock < limits.work → Kept (record { entries = entries; slot = slot_after_chunk r slot l })
-      working_kept entries slot l follow agrees short f turn_after_begin clock few store lives =
+          slot.clock ≡ old.clock → HaveWords entries → word_count entries + old.words ≤ slot.words → slot.words ≤ limits.store - 4 → old.clock < limits.work → Kept (record { entries = entries; slot = slot_after_chunk r slot l })
+      working_kept entries slot l follow agrees short f begun clock words fills store lives =
           let there = at-get_or None (set slots number (standing l [])) number (standing l []) (at-set_same slots number _ (standing l []) (get_or-at slots number _ can.there)) in
-          let next = law.chunk_agrees (history ++ under (key_of number old) entries) (set slots number (standing l [])) number l short agrees there turn_after_begin in
-          let work = law.some_work l f turn_after_begin in
+          let next = law.chunk_agrees (history ++ under (key_of number old) entries) (set slots number (standing l [])) number l short agrees there begun in
+          let work = law.some_work l f begun in
           record {
             follow = follow;
             agrees = subst (Agrees (history ++ under (key_of number old) entries)) (set-set slots number (standing l []) (standing (r.chunk l).local (r.chunk l).gives.entries)) next;
-            fits = record { local = law.chunk_fits l f turn_after_begin; words = law.chunk_words l f turn_after_begin };
+            fits = record { local = law.chunk_fits l f begun; words = law.chunk_words l f begun };
             rises = omega (arith, clock, work);
             left = omega (arith, clock, work, lives);
-            few = omega (arith, few);
+            low = λ h. omega (arith, clock, lives, law.little_work l f begun);
+            few = omega (arith, fills, some_words entries);
+            words = words;
+            fills = omega (arith, fills);
             store = store;
           }
 
       goes_on_kept : Joined → old.clock < limits.work → r.at_start live.local ≡ false → Kept (record { entries = live.pending; slot = slot_after_chunk r (slot_after_join old live) live.local })
-      goes_on_kept j lives turn_after_begin =
-          let words = some_words live.pending in
-          working_kept live.pending (slot_after_join old live) live.local j.all.follow j.all.agrees (omega (arith, j.short)) can.fits.local turn_after_begin refl (omega arith) j.store lives
+      goes_on_kept j lives begun =
+          working_kept live.pending (slot_after_join old live) live.local j.all.follow j.all.agrees (omega (arith, j.short)) can.fits.local begun refl can.fits.words (omega arith) j.store lives
 
       waits_kept : Joined → old.clock < limits.work → Kept (record { entries = live.pending; slot = slot_after_idle (slot_after_join old live) live.local })
       waits_kept j lives =
@@ -163,7 +187,10 @@ module _ (V L : Type 0) (r : Rules V L) (FitsView : V → Type 0) (FitsLocal : L
             fits = record { local = can.fits.local; words = record { each = λ k d h. absurd (omega arith) } };
             rises = omega arith;
             left = omega (arith, lives);
+            low = λ h. omega (arith, lives);
             few = omega arith;
+            words = can.fits.words;
+            fills = omega arith;
             store = j.store;
           }
 
@@ -177,7 +204,10 @@ module _ (V L : Type 0) (r : Rules V L) (FitsView : V → Type 0) (FitsLocal : L
             fits = tt;
             rises = tt;
             left = omega arith;
+            low = λ h. h;
             few = omega arith;
+            words = can.fits.words;
+            fills = omega arith;
             store = j.store;
           }
 
@@ -198,7 +228,10 @@ module _ (V L : Type 0) (r : Rules V L) (FitsView : V → Type 0) (FitsLocal : L
             fits = tt;
             rises = tt;
             left = omega arith;
+            low = λ h. h;
             few = omega (arith, length-append live.pending (Halt ∷ []));
+            words = words-append live.pending (Halt ∷ []) can.fits.words halt_words;
+            fills = omega (arith, word_count-append live.pending (Halt ∷ []));
             store = j.store;
           }
 
@@ -206,7 +239,6 @@ module _ (V L : Type 0) (r : Rules V L) (FitsView : V → Type 0) (FitsLocal : L
           fits limits (slot_after_join old live).words es ≡ true →
           Kept (record { entries = live.pending ++ es; slot = slot_after_chunk r (record (slot_after_join old live) { words = (slot_after_join old live).words + word_count es }) (r.begin (view_of r (history ++ under (key_of number old) live.pending)) live.local).local })
       takes_kept j es lives start does fit =
-          let words = some_words live.pending in
           let more = some_words es in
           let within : (slot_after_join old live).words + word_count es ≤ limits.store - 4 = grind arith in
           let few : length (history ++ under (key_of number old) live.pending) < 2 ^ 31 = omega (arith, j.short) in
@@ -226,7 +258,8 @@ module _ (V L : Type 0) (r : Rules V L) (FitsView : V → Type 0) (FitsLocal : L
           (law.begin_fits _ live.local view can.fits.local start)
           (law.take_begins _ live.local es view can.fits.local start does)
           refl
-          (omega (arith, length-append live.pending es))
+          (words-append live.pending es can.fits.words (law.begin_words _ live.local es view can.fits.local start does))
+          (omega (arith, word_count-append live.pending es))
           within
           lives
 
@@ -247,5 +280,5 @@ module _ (V L : Type 0) (r : Rules V L) (FitsView : V → Type 0) (FitsLocal : L
           let j = joins fit in
           by_test Kept (r.at_start live.local) _ _
           (λ start. subst (λ view. Kept (turn_after_begin r limits (slot_after_join old live) live.pending (r.begin view live.local))) (sym j.is_view) (begins_kept j _ lives start refl))
-          (λ turn_after_begin. goes_on_kept j lives turn_after_begin))
+          (λ begun. goes_on_kept j lives begun))
           (λ full. halted_kept))

@@ -1,12 +1,13 @@
 -- What every move of the machine keeps, for a lawful system of tasks.
-use Rattle.std.specs.Prelude.{ℕ, ◌≡◌, ◌≤◌, ◌<◌, ◌+◌, ◌-◌, List, [], ◌∷◌, ◌++◌, length, map, set, Option, Some, None}
+use Rattle.std.specs.Prelude.{ℕ, ◌≡◌, ◌≤◌, ◌<◌, ◌+◌, ◌*◌, ◌-◌, ◌^◌, List, [], ◌∷◌, ◌++◌, length, map, set, Option, Some, None}
 use Rattle.work_stamp.specs.Histories.{under, FollowInTurn}
 use Rattle.work_stamp.specs.Taskers.{Rules, Standing, view_of, HaveWords}
 use Rattle.work_stamp.specs.declared.entry.Entry.{Entry}
 use Rattle.work_stamp.specs.declared.stamped.KeyedEntry.{KeyedEntry}
 use Rattle.stamp_machine.specs.Slots.{at, key_of, standing_of, moves_left}
-use Rattle.stamp_machine.specs.Machine.{Turn, State}
+use Rattle.stamp_machine.specs.Machine.{State, word_count}
 use Rattle.stamp_machine.specs.declared.limits.Limits.{Limits}
+use Rattle.stamp_machine.specs.declared.opening.Turn.{Turn}
 use Rattle.stamp_machine.specs.declared.slot.Slot.{Slot}
 use Rattle.stamp_machine.specs.declared.slot.Live.{Live}
 
@@ -29,7 +30,7 @@ IsPast before clock (Some live) = before < clock
 abbrev pub HasRisen : {L : Type 0} → Slot L → Slot L → Type 0
 HasRisen old new = IsPast old.clock new.clock new.live
 
--- how many entries a slot can have published: one for each word, and a Halt at its end
+-- a slot that is over may have published one entry more than its words count: a Halt
 abbrev pub one_when_over : {L : Type 0} → Option (Live L) → ℕ
 one_when_over None = 1
 one_when_over (Some live) = 0
@@ -38,7 +39,8 @@ one_when_over (Some live) = 0
 abbrev pub tally : {L : Type 0} → Slot L → ℕ
 tally slot = slot.words + one_when_over slot.live
 
--- a move of a live slot keeps agreement: its entries may follow one after the other
+-- A move of a live slot keeps agreement: its entries may follow one after the other. They have words, of which the
+-- slot's count misses those of a Halt alone. The clock doesn't pass the limit on work by more than a chunk.
 pub record IsKept {V L : Type 0} (r : Rules V L) (FitsLocal : L → Type 0)
     (MayFollow : List KeyedEntry → Entry → Type 0)
     (Agrees : List KeyedEntry → List (Option (Standing L)) → Type 0)
@@ -50,7 +52,10 @@ pub record IsKept {V L : Type 0} (r : Rules V L) (FitsLocal : L → Type 0)
   pub fits : IsFittingWhileLive FitsLocal t.slot.live
   pub rises : HasRisen old t.slot
   pub left : moves_left limits t.slot ≤ limits.work - old.clock
+  pub low : old.clock ≤ limits.work + 2 ^ 40 → t.slot.clock ≤ limits.work + 2 ^ 40
   pub few : length t.entries + old.words ≤ tally t.slot
+  pub words : HaveWords t.entries
+  pub fills : word_count t.entries + old.words ≤ t.slot.words + 3 * one_when_over t.slot.live
   pub store : t.slot.words ≤ limits.store - 4
 
 -- so many entries can all slots together have published

@@ -11,3 +11,5 @@ pub mod Relay
 pub mod RelayLaw
 pub mod Endings
 pub mod Records
+pub mod Ranges
+pub mod Openings

@@ -11,6 +11,7 @@ use Rattle.work_stamp.specs.declared.task.Begin.TheVariants.{Take, Idle, End}
 use Rattle.stamp_machine.specs.Slots.{at, fresh_slots, slot_after_end, key_of, next_slot}
 use Rattle.stamp_machine.specs.declared.history.History.{History}
 use Rattle.stamp_machine.specs.declared.limits.Limits.{Limits}
+use Rattle.stamp_machine.specs.declared.opening.Turn.{Turn}
 use Rattle.stamp_machine.specs.declared.slot.Slot.{Slot}
 use Rattle.stamp_machine.specs.declared.slot.Live.{Live}
 
@@ -26,11 +27,6 @@ word_count (e ∷ es) = entry_count e + word_count es
 -- whether a slot may publish these entries: four words of its store stay free
 abbrev pub fits : Limits → ℕ → List Entry → Bool
 fits limits words es = nat_le (words + word_count es) (limits.store - 4)
-
--- a move of a slot: the entries that join the history under its key, and the slot afterwards
-pub record Turn (L : Type 0) : Type 0 where
-  pub entries : List Entry
-  pub slot : Slot L
 
 -- the slot after a chunk of its task, whose entries and records are pending
 abbrev pub slot_after_chunk : {V L : Type 0} → Rules V L → Slot L → L → Slot L

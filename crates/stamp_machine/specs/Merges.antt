@@ -10,10 +10,12 @@ use Rattle.stamp_machine.specs.declared.limits.Limits.{Limits}
 use Rattle.stamp_machine.specs.declared.slot.Slot.{Slot}
 use Rattle.stamp_machine.specs.declared.slot.Live.{Live}
 
--- what a slot has published below a key of another slot: up to the key's stamp where it is smaller, and else below it
+-- what a slot has published below a key: up to the key's stamp where its number is smaller than that of the key's slot,
+-- and else below it
 pub record HasSides (history : List KeyedEntry) (k : Key) (number : ℕ) : Type 0 where
   pub smaller : number < k.slot → of_slot number (below k history) ≡
       log number (k.stamp + 1) history
+  pub own : number ≡ k.slot → of_slot number (below k history) ≡ log number k.stamp history
   pub larger : k.slot < number → of_slot number (below k history) ≡ log number k.stamp history
 
 -- the first entry of a history in order is its slot's first one, and no slot's first one has a lesser key

@@ -1,15 +1,16 @@
 -- What a run of the machine works with: the history with its view, and the slots.
-use Rattle.std.specs.Prelude.{ℕ, ◌≡◌, ◌≤◌, ◌<◌, ◌+◌, ◌-◌, ◌^◌, Bool, if◌then◌else◌, Option, Some, None, List, [], ◌∷◌, ◌++◌, length}
+use Rattle.std.specs.Prelude.{ℕ, ◌≡◌, ◌≤◌, ◌<◌, ◌+◌, ◌-◌, ◌^◌, if◌then◌else◌, Option, Some, None, List, [], ◌∷◌, ◌++◌, length}
 use Rattle.work_stamp.specs.Histories.{under, FollowInTurn}
 use Rattle.work_stamp.specs.Taskers.{Rules, view_of, view_after}
 use Rattle.work_stamp.specs.declared.entry.Entry.{Entry}
 use Rattle.work_stamp.specs.declared.key.Key.{Key}
 use Rattle.work_stamp.specs.declared.stamped.KeyedEntry.{KeyedEntry}
 use Rattle.stamp_machine.specs.Slots.{key_of, moves_left}
-use Rattle.stamp_machine.specs.Machine.{Turn, State, turn, fits, word_count, moves, as_history}
+use Rattle.stamp_machine.specs.Machine.{State, turn, fits, word_count, moves, as_history}
 use Rattle.stamp_machine.specs.declared.history.History.{History}
 use Rattle.stamp_machine.specs.Kept.{IsFittingWhileLive}
 use Rattle.stamp_machine.specs.declared.limits.Limits.{Limits}
+use Rattle.stamp_machine.specs.declared.opening.Turn.{Turn}
 use Rattle.stamp_machine.specs.declared.slot.Slot.{Slot}
 use Rattle.stamp_machine.specs.declared.play.HistoryView.{HistoryView}
 use Rattle.stamp_machine.specs.declared.play.AfterMove.{AfterMove}
@@ -51,11 +52,10 @@ pub record CanTurn {V L : Type 0} (r : Rules V L) (FitsView : V → Type 0) (Fit
   pub fits : IsFittingWhileLive FitsLocal slot.live
   pub store : slot.words ≤ limits.store - 4
 
--- a slot that has begun, or goes on with, what these entries belong to
-pub record CanWork {L : Type 0} (FitsLocal : L → Type 0) (at_start : L → Bool)
-    (turn_after_begin : Bool) (limits : Limits) (slot : Slot L) (local : L) : Type 0 where
+-- a slot whose pending entries have joined, which begins a task or goes on with one of this local
+pub record CanWork {L : Type 0} (FitsLocal : L → Type 0) (limits : Limits) (slot : Slot L)
+    (local : L) : Type 0 where
   pub fits : FitsLocal local
-  pub start : at_start local ≡ turn_after_begin
   pub store : slot.words ≤ limits.store - 4
   pub early : slot.clock < 10 ^ 12
 

@@ -6,8 +6,9 @@ use Rattle.work_stamp.specs.Taskers.{Rules, view_of}
 use Rattle.work_stamp.specs.declared.key.Key.{Key}
 use Rattle.work_stamp.specs.declared.stamped.KeyedEntry.{KeyedEntry}
 use Rattle.stamp_machine.specs.Slots.{fresh_slot, key_of, next_slot}
-use Rattle.stamp_machine.specs.Machine.{Turn, turn, moves}
+use Rattle.stamp_machine.specs.Machine.{turn, moves}
 use Rattle.stamp_machine.specs.declared.limits.Limits.{Limits}
+use Rattle.stamp_machine.specs.declared.opening.Turn.{Turn}
 use Rattle.stamp_machine.specs.declared.slot.Slot.{Slot}
 
 -- what stands below a key

@@ -3,19 +3,22 @@ ghost use Rattle.stamp_machine.specs.Limits.{AreLimits};
 ghost use Rattle.stamp_machine.specs.Relay.{found_entry as found_of, leaf as leaf_of, one_more as one_more_of};
 
 use crate::{
-    History, Limits, clocks_rise, ends_are_known, entries_have_origins, history_is_sorted,
+    History, Limits, Live, Opening, Slot, clocks_are_low, clocks_rise, ends_are_known,
+    entries_fit_stores, entries_have_origins, entries_have_words, history_is_sorted,
     keys_part_by_slots, keys_rise, least_key_is_first, lesser_keys_are_before, live_locals_fit,
-    live_slots_are_chosen, logs_are_known, machine_stops, moves_are_in_front, moves_keep_the_laws,
-    records_have_chunks, run_alone, running_tasks_read_nothing, slots_play_by_the_history,
-    sorted_histories_are_same,
+    live_slots_are_chosen, logs_are_known, machine_stops, machine_turns_are_by_the_history,
+    moves_are_in_front, moves_keep_the_laws, over_slots_are_last, own_moves_keep_the_laws,
+    pending_opening, reads_history, records_have_chunks, run_alone, running_tasks_read_nothing,
+    slot_after_chunk, slots_play_by_the_history, sorted_histories_are_same, task_opening,
+    turns_have_parts,
 };
 use ip_core::{Closing, Leaf, List, OutOfMemory, Point, Record};
 use std::alloc::Global;
 use std::test::Fail;
-use work_stamp::{Begin, Chunk, Entry, Key, Pulse, Tasker};
+use work_stamp::{Begin, Chunk, Entry, Key, NoPulse, Pulse, Tasker};
 
-/// A small system of tasks. Three are taken in all, each by a slot that finds fewer than three begun. A task finds a point
-/// in its first chunk and ends in its second. A slot that finds three begun waits until three have ended.
+/// A small system of tasks. Three are taken in all, each by a slot that finds fewer than three begun. A task finds a
+/// point in its first chunk and ends in its second. A slot that finds three begun waits until three have ended.
 struct Relay;
 
 impl Tasker for Relay {
@@ -271,6 +274,67 @@ fn a_task_that_does_not_fit_is_not_taken(rt: HostRuntime) -> Result<(), Fail> {
     Ok(())
 }
 
+/// The parts of a move of a slot at 700, with the end of its task pending and two tasks begun: the kinds of what joins
+/// first and of what it takes, its node, and the slot's clock and words afterwards. None where the slot's move reads no
+/// history, or the slot doesn't go on.
+fn parts_of_move(alloc: Global) -> Result<Option<[u64; 5]>, OutOfMemory> {
+    let limits = Limits {
+        slots: 2,
+        work: 2_000,
+        store: 1_000,
+    };
+    let mut pending = List::new(alloc);
+    pending.push(Entry::Done)?;
+    let live = Live {
+        local: 0,
+        pending,
+        leaves: List::new(alloc),
+    };
+    let slot = Slot {
+        clock: 700,
+        words: 28,
+        records: List::new(alloc),
+        live: Some(live),
+    };
+    if !reads_history(&Relay, &limits, &slot) {
+        return Ok(None);
+    }
+    let Opening::Goes { turn: first, local } = pending_opening(alloc, &limits, slot)? else {
+        return Ok(None);
+    };
+    let Opening::Goes { turn: next, local } = task_opening(
+        alloc,
+        &Relay,
+        &limits,
+        &(2, 1),
+        first.slot,
+        local,
+    )?
+    else {
+        return Ok(None);
+    };
+    let (joined, _) = first_kind(&first.entries);
+    let (taken, node) = first_kind(&next.entries);
+    let mut pulse = NoPulse::new();
+    let after = slot_after_chunk(alloc, &Relay, next.slot, local, &mut pulse)?;
+    Ok(Some([joined, taken, node, after.clock, after.words]))
+}
+
+/// The number of the first entry's kind, and the node of a Start.
+fn first_kind(entries: &List<Entry>) -> (u64, u64) {
+    match entries.as_slice().first() {
+        Some(entry) => kind_and_node(entry),
+        None => (0, 0),
+    }
+}
+
+// The third task is taken at 700, and its first chunk counts 400.
+#[test]
+fn a_move_has_parts(rt: HostRuntime) -> Result<(), Fail> {
+    assert!(rt; parts_of_move(rt.alloc())? == Some([DONE, START, 2, 1_100, 35]));
+    Ok(())
+}
+
 // The laws have nothing to run. This shows that a system of tasks and limits meet what they ask.
 #[test]
 fn laws_are_said_of_the_relay(_rt: HostRuntime) -> Result<(), Fail> {
@@ -293,6 +357,13 @@ fn laws_are_said_of_the_relay(_rt: HostRuntime) -> Result<(), Fail> {
     moves_are_in_front(&Relay, &limits);
     records_have_chunks(&Relay, &limits);
     entries_have_origins(&Relay, &limits);
+    entries_have_words(&Relay, &limits);
+    clocks_are_low(&Relay, &limits);
+    entries_fit_stores(&Relay, &limits);
+    over_slots_are_last(&Relay, &limits);
+    machine_turns_are_by_the_history(&Relay, &limits);
+    own_moves_keep_the_laws(&Relay, &limits);
+    turns_have_parts(&Relay, &limits);
     running_tasks_read_nothing(&Relay, &limits);
     keys_part_by_slots();
     least_key_is_first();

@@ -1,6 +1,6 @@
 use Rattle.std.proofs.Common.{◌≡◌, ◌+◌, ◌-◌, ◌≤◌, drop}
 use Rattle.stamp_machine.specs.Machine.{word_count}
-use Rattle.stamp_machine.proofs.turn.words_with.Given as goal
+use Rattle.stamp_machine.proofs.opening.words_with.Given as goal
 
 abbrev pub invariant-loop-entry : goal.invariant-loop-entry
 invariant-loop-entry l = record {

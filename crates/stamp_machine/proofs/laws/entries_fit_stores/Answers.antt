@@ -1,0 +1,8 @@
+use Rattle.stamp_machine.proofs.Ranges.{stores_fit}
+use Rattle.stamp_machine.proofs.laws.entries_fit_stores.Goals as goal
+
+pub returns : goal.returns
+returns g c =
+    let t = g.T.Tasker in
+    let a = c.args.tasker.now in
+    stores_fit g.row.T-View.Denot g.row.T-Local.Denot (t.rules a) (t.fits_view a) (t.fits_local a) (t.may_follow a) (t.agrees a) (g.met.T.Tasker.lawful a) c.args.limits.now c.requires

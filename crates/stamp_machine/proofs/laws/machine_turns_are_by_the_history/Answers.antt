@@ -1,0 +1,8 @@
+use Rattle.stamp_machine.proofs.Ranges.{turns_of_machine}
+use Rattle.stamp_machine.proofs.laws.machine_turns_are_by_the_history.Goals as goal
+
+pub returns : goal.returns
+returns g c =
+    let t = g.T.Tasker in
+    let a = c.args.tasker.now in
+    turns_of_machine g.row.T-View.Denot g.row.T-Local.Denot (t.rules a) (t.fits_view a) (t.fits_local a) (t.may_follow a) (t.agrees a) (g.met.T.Tasker.lawful a) c.args.limits.now c.requires
