@@ -100,6 +100,13 @@ cut_loop = by 0 0 CutStart ∷ by 69 0 (gomory 2 1) ∷ by 69 0 (gomory 2048 512
 abbrev cut_loop_after : ℕ → View
 cut_loop_after n = view_of with_cuts (switches true true) (take n cut_loop)
 
+abbrev at_least : ℤ → Row
+at_least least = record { terms = record { col = 0; coef = pos 1 } ∷ []; least = least }
+
+-- each derivation gives a row
+pub cut_loop_cuts : (cut_loop_after 3).cuts ≡ at_least (pos 2) ∷ at_least (pos 1) ∷ []
+cut_loop_cuts = refl
+
 pub cut_loop_first : pick_of (cut_loop_after 0) ≡ CutLoop
 cut_loop_first = refl
 

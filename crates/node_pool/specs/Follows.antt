@@ -1,8 +1,13 @@
 -- Which entries may follow a history.
-use Rattle.std.specs.Prelude.{ℕ, ◌≡◌, ◌≤◌, ◌<◌, ◌+◌, ◌-◌, ◌^◌, true, false, nat_eq, List, length, ℤ, pos, ◌≤ℤ◌, neg_ℤ, Some, None}
+use Rattle.std.specs.Prelude.{ℕ, ◌≡◌, ◌≤◌, ◌<◌, ◌+◌, ◌-◌, ◌^◌, true, false, nat_eq, List, length, ℤ, pos, ◌≤ℤ◌, neg_ℤ, Some, None, Ok}
 use Rattle.std.specs.List.{list_any}
 use Rattle.ip_core.specs.Truth.{IsFeasible, value_at}
 use Rattle.ip_core.specs.declared.model.ModelParts.{ModelParts}
+use Rattle.ip_core.specs.declared.derivation.Derivation.{Derivation}
+use Rattle.ip_core.specs.declared.row.Row.{Row}
+use Rattle.safe_bound.specs.Premises.{AreCuts}
+use Rattle.cut_derive.specs.Derivations.{derived_row}
+use Rattle.cut_derive.specs.declared.limits.TheConstants.{MAX_CUTS}
 use Rattle.work_stamp.specs.declared.entry.Entry.{Entry}
 use Rattle.work_stamp.specs.declared.entry.Entry.TheVariants.{Start, CutStart, HeurStart, Done, Found, Cut, Split, Closed, Halt}
 use Rattle.work_stamp.specs.declared.stamped.KeyedEntry.{KeyedEntry}
@@ -42,14 +47,21 @@ pub record MaySplit (m : ModelParts) (v : View) (node col : ℕ) (at : ℤ) (fir
     pub first_new : is_known v first ≡ false
     pub second_new : is_known v (first + 1) ≡ false
 
--- by the kind of entry; there are no cuts yet, and no points are looked for from open nodes
+-- a derivation may give a cut more while there are fewer than 512, where it gives a row from the
+-- model's rows and the cuts
+pub record MayCut (m : ModelParts) (v : View) (derivation : Derivation) : Type 0 where
+  pub few : length v.cuts < MAX_CUTS
+  pub row : Row
+  pub derived : derived_row m v.cuts derivation ≡ Ok row
+
+-- by the kind of entry
 abbrev pub MayJoin : ModelParts → View → Entry → Type 0
 MayJoin m v (Start node) = IsOpen v node
-MayJoin m v CutStart = ⊥
-MayJoin m v (HeurStart node) = ⊥
+MayJoin m v CutStart = Unit {0}
+MayJoin m v (HeurStart node) = IsOpen v node
 MayJoin m v Done = Unit {0}
 MayJoin m v (Found value point) = IsValued m value point
-MayJoin m v (Cut derivation) = ⊥
+MayJoin m v (Cut derivation) = MayCut m v derivation
 MayJoin m v (Split node col at first keep bound) = MaySplit m v node col at first keep
 MayJoin m v (Closed node) = IsHeld v node
 MayJoin m v Halt = Unit {0}
@@ -71,17 +83,23 @@ pub record IsNewSplit (v : View) (at : ℤ) (first : ℕ) : Type 0 where
   pub first_new : is_known v first ≡ false
   pub second_new : is_known v (first + 1) ≡ false
 
--- a split is new
-abbrev pub HasNewSplit : View → Entry → Type 0
-HasNewSplit v (Start node) = Unit {0}
-HasNewSplit v CutStart = Unit {0}
-HasNewSplit v (HeurStart node) = Unit {0}
-HasNewSplit v Done = Unit {0}
-HasNewSplit v (Found value point) = Unit {0}
-HasNewSplit v (Cut derivation) = Unit {0}
-HasNewSplit v (Split node col at first keep bound) = IsNewSplit v at first
-HasNewSplit v (Closed node) = Unit {0}
-HasNewSplit v Halt = Unit {0}
+-- cuts like the model's rows, and a row that the derivation gives from them
+pub record HasRow (m : ModelParts) (v : View) (derivation : Derivation) : Type 0 where
+  pub cuts : AreCuts m v.cuts
+  pub row : Row
+  pub derived : derived_row m v.cuts derivation ≡ Ok row
+
+-- what the entry's effect relies on: a split is new, and a cut has a row
+abbrev pub HasGround : ModelParts → View → Entry → Type 0
+HasGround m v (Start node) = Unit {0}
+HasGround m v CutStart = Unit {0}
+HasGround m v (HeurStart node) = Unit {0}
+HasGround m v Done = Unit {0}
+HasGround m v (Found value point) = Unit {0}
+HasGround m v (Cut derivation) = HasRow m v derivation
+HasGround m v (Split node col at first keep bound) = IsNewSplit v at first
+HasGround m v (Closed node) = Unit {0}
+HasGround m v Halt = Unit {0}
 
 -- a node that may be opened: no open node has its name, which isn't 0, and a split gives it its
 -- bound

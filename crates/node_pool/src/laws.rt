@@ -1,4 +1,4 @@
-ghost use Rattle.node_pool.specs.Laws.{BestIsLeast, BoxesAreParts, EntriesAreCounted};
+ghost use Rattle.node_pool.specs.Laws.{BestIsLeast, BoxesAreParts, CutsAreDerived, EntriesAreCounted};
 
 /// A law of the pool, with nothing to run: at every history the best open node has the least bound,
 /// and of those the least name.
@@ -16,4 +16,11 @@ pub fn boxes_are_parts()
 /// A law of the pool, with nothing to run: a view counts each entry of its history.
 pub fn entries_are_counted()
     ensures { EntriesAreCounted }
+{}
+
+/// A law of the pool, with nothing to run: at every history each cut of the view was derived from
+/// the model's rows and the cuts before it, so that every feasible point meets it. Cuts stay, and
+/// there are at most 512.
+pub fn cuts_are_derived()
+    ensures { CutsAreDerived }
 {}

@@ -16,7 +16,7 @@ mod tree;
 
 pub use bound_change::BoundChange;
 pub use branching::Branching;
-pub use laws::{best_is_least, boxes_are_parts, entries_are_counted};
+pub use laws::{best_is_least, boxes_are_parts, cuts_are_derived, entries_are_counted};
 pub use node::OpenNode;
 pub use pick::Pick;
 pub use pool::Pool;

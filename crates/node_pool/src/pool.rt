@@ -1,10 +1,9 @@
 ghost use Rattle.std.specs.Prelude.{◌≡◌, false, nat_eq, IfOk, OnOk};
-ghost use Rattle.work_stamp.specs.declared.entry.Entry.TheVariants.{Start, Split};
 ghost use Rattle.node_pool.specs.Branchings.{box_of};
-ghost use Rattle.node_pool.specs.Follows.{CanJoin, HasNewSplit, HasRoom, IsFresh, IsNewSplit};
+ghost use Rattle.node_pool.specs.Follows.{CanJoin, HasGround, HasRoom, HasRow, IsFresh, IsNewSplit};
 ghost use Rattle.node_pool.specs.Nodes.{insert_open as insert_open_of, without_node};
 ghost use Rattle.node_pool.specs.Picks.{best_open as best_open_of, pick_of, wants_cuts as wants_cuts_of, wants_heuristic as wants_heuristic_of};
-ghost use Rattle.node_pool.specs.Views.{fresh_view, is_finished as is_finished_of, after_entry, with_effect, with_children};
+ghost use Rattle.node_pool.specs.Views.{fresh_view, is_finished as is_finished_of, after_entry, started, with_cut, with_effect, with_children, with_split};
 
 use crate::bound_change::apply_all;
 use crate::branching::Branching;
@@ -12,7 +11,8 @@ use crate::node::{OpenNode, insert_open, remove_name};
 use crate::pick::Pick;
 use crate::settings::SearchSettings;
 use crate::tree::SearchTree;
-use ip_core::{Bounds, Model, OutOfMemory, Row, greatest_value, least_value};
+use cut_derive::{CutError, derive};
+use ip_core::{Bounds, Derivation, Model, OutOfMemory, Row, greatest_value, least_value};
 use std::alloc::Global;
 use std::collections::BTreeSet;
 use work_stamp::Entry;
@@ -90,20 +90,21 @@ impl Pool {
 
     /// Appends an entry that may follow the history of the model's search. After want of memory the
     /// pool is used no more.
-    pub fn absorb(&mut self, model: &Model, entry: &Entry) -> Result<(), OutOfMemory>
+    pub fn absorb(&mut self, alloc: Global, model: &Model, entry: &Entry) -> Result<(), OutOfMemory>
         requires { CanJoin model.now self.old entry.now }
-        ensures { OnOk result (self.new ≡ after_entry self.old entry.now) }
+        ensures { OnOk result (self.new ≡ after_entry model.now self.old entry.now) }
     {
-        self.join(entry)?;
+        let _limits = model.parts();
+        self.join(alloc, model, entry)?;
         self.entries += 1;
         Ok(())
     }
 
     /// What an entry changes, but for the count of all entries.
-    fn join(&mut self, entry: &Entry) -> Result<(), OutOfMemory>
+    fn join(&mut self, alloc: Global, model: &Model, entry: &Entry) -> Result<(), OutOfMemory>
         requires room { HasRoom self.old }
-        requires split { HasNewSplit self.old entry.now }
-        ensures { OnOk result (self.new ≡ with_effect self.old entry.now) }
+        requires ground { HasGround model.now self.old entry.now }
+        ensures { OnOk result (self.new ≡ with_effect model.now self.old entry.now) }
     {
         match entry {
             Entry::Start { node } => self.start(*node)?,
@@ -120,7 +121,8 @@ impl Pool {
             } => self.split(*node, *col, *at, *first, *keep, *bound)?,
             Entry::Closed { node } => remove_name(&mut self.held_nodes, *node),
             Entry::Halt => self.has_halt = true,
-            Entry::Done | Entry::Cut { .. } => {}
+            Entry::Cut { derivation } => self.add_cut(alloc, model, derivation)?,
+            Entry::Done => {}
         }
         Ok(())
     }
@@ -128,7 +130,7 @@ impl Pool {
     /// A node goes from open to held.
     fn start(&mut self, node: u64) -> Result<(), OutOfMemory>
         requires { HasRoom self.old }
-        ensures { OnOk result (self.new ≡ with_effect self.old (Start node)) }
+        ensures { OnOk result (self.new ≡ started self.old node) }
     {
         self.remove_open(node);
         self.held_nodes.push(node)?;
@@ -148,6 +150,26 @@ impl Pool {
         }
     }
 
+    /// Appends the row of a derivation to the cuts.
+    fn add_cut(
+        &mut self,
+        alloc: Global,
+        model: &Model,
+        derivation: &Derivation,
+    ) -> Result<(), OutOfMemory>
+        requires { HasRow model.now self.old derivation.now }
+        ensures { OnOk result (self.new ≡ with_cut model.now self.old derivation.now) }
+    {
+        match derive(alloc, model, self.cuts.as_slice(), derivation) {
+            Ok(row) => {
+                self.cuts.push(row)?;
+                Ok(())
+            }
+            Err(CutError::Memory) => Err(OutOfMemory),
+            Err(_) => unreachable!(),
+        }
+    }
+
     /// A held node gives way to its children.
     fn split(
         &mut self,
@@ -159,8 +181,7 @@ impl Pool {
         bound: i64,
     ) -> Result<(), OutOfMemory>
         requires { IsNewSplit self.old at first }
-        ensures { OnOk result
-            (self.new ≡ with_effect self.old (Split node col at first keep bound)) }
+        ensures { OnOk result (self.new ≡ with_split self.old node col at first keep bound) }
     {
         remove_name(&mut self.held_nodes, node);
         self.tree.push(Branching::of(node, col, at, first, bound))?;

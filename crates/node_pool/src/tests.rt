@@ -2,7 +2,10 @@ ghost use Rattle.std.specs.Prelude.{◌≡◌, ◌<◌, length, IfOk};
 ghost use Rattle.node_pool.specs.Runs.{dives_view};
 
 use crate::{Pick, Pool, SearchSettings};
-use ip_core::{Bounds, List, Model, ModelParts, Name, OutOfMemory, Row, Term, Text};
+use cut_derive::derive;
+use ip_core::{
+    Bounds, Derivation, List, Model, ModelParts, Name, OutOfMemory, Pair, Row, RowRef, Term, Text,
+};
 use std::alloc::Global;
 use std::test::Fail;
 use work_stamp::Entry;
@@ -52,8 +55,9 @@ fn half_done(alloc: Global, model: &Model) -> Result<Pool, OutOfMemory>
         heuristics: true,
     };
     let mut pool = Pool::new(alloc, model, settings)?;
-    pool.absorb(model, &Entry::Start { node: 0 })?;
+    pool.absorb(alloc, model, &Entry::Start { node: 0 })?;
     pool.absorb(
+        alloc,
         model,
         &Entry::Split {
             node: 0,
@@ -64,8 +68,8 @@ fn half_done(alloc: Global, model: &Model) -> Result<Pool, OutOfMemory>
             bound: 0,
         },
     )?;
-    pool.absorb(model, &Entry::Closed { node: 4 })?;
-    pool.absorb(model, &Entry::Done)?;
+    pool.absorb(alloc, model, &Entry::Closed { node: 4 })?;
+    pool.absorb(alloc, model, &Entry::Done)?;
     Ok(pool)
 }
 
@@ -90,10 +94,10 @@ fn the_search_ends(alloc: Global, model: &Model) -> Result<bool, OutOfMemory> {
         return Ok(false);
     }
     let mut pool = half_done(alloc, model)?;
-    pool.absorb(model, &Entry::Start { node: 5 })?;
+    pool.absorb(alloc, model, &Entry::Start { node: 5 })?;
     let waits = pool.pick() == Pick::Nothing && !pool.is_finished();
-    pool.absorb(model, &Entry::Closed { node: 5 })?;
-    pool.absorb(model, &Entry::Halt)?;
+    pool.absorb(alloc, model, &Entry::Closed { node: 5 })?;
+    pool.absorb(alloc, model, &Entry::Halt)?;
     Ok(
         waits
             && pool.is_finished()
@@ -114,6 +118,42 @@ fn cuts_come_first(alloc: Global, model: &Model) -> Result<bool, OutOfMemory> {
     Ok(pool.pick() == Pick::CutLoop && pool.best_open() == Some(0))
 }
 
+/// Half the first row of the model, rounded up.
+fn half_row(alloc: Global) -> Result<Derivation, OutOfMemory> {
+    let mut parts = List::new(alloc);
+    parts.push(Pair {
+        row: RowRef::Model(0),
+        weight: 1,
+    })?;
+    Ok(Derivation::Gomory { parts, divisor: 2 })
+}
+
+// Once cuts are looked for the root is next. The sum of the columns is at least 2, where twice it
+// is at least 3, and a cut says so.
+fn a_cut_is_seen(alloc: Global, model: &Model) -> Result<bool, OutOfMemory> {
+    let settings = SearchSettings {
+        cuts: true,
+        heuristics: true,
+    };
+    let _limits = model.parts();
+    let mut pool = Pool::new(alloc, model, settings)?;
+    pool.absorb(alloc, model, &Entry::CutStart)?;
+    let derivation = half_row(alloc)?;
+    let Ok(row) = derive(alloc, model, pool.cuts(), &derivation) else {
+        return Ok(false);
+    };
+    pool.absorb(alloc, model, &Entry::Cut { derivation })?;
+    let [cut] = pool.cuts() else {
+        return Ok(false);
+    };
+    Ok(
+        pool.pick() == Pick::Node(0)
+            && row.least == 2
+            && cut.least == row.least
+            && cut.terms.as_slice() == row.terms.as_slice(),
+    )
+}
+
 #[test]
 fn picks_a_dive_from_the_other_child(rt: HostRuntime) -> Result<(), Fail> {
     let model = model(rt.alloc())?;
@@ -132,5 +172,12 @@ fn is_over_when_both_children_are_closed(rt: HostRuntime) -> Result<(), Fail> {
 fn looks_for_cuts_before_the_root(rt: HostRuntime) -> Result<(), Fail> {
     let model = model(rt.alloc())?;
     assert!(rt; cuts_come_first(rt.alloc(), &model)?);
+    Ok(())
+}
+
+#[test]
+fn keeps_the_row_of_a_cut(rt: HostRuntime) -> Result<(), Fail> {
+    let model = model(rt.alloc())?;
+    assert!(rt; a_cut_is_seen(rt.alloc(), &model)?);
     Ok(())
 }

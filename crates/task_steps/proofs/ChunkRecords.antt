@@ -6,7 +6,9 @@ use Rattle.ip_core.specs.Truth.{value_at}
 use Rattle.ip_core.specs.declared.leaf.Closing.{Closing}
 use Rattle.ip_core.specs.declared.leaf.Closing.TheVariants.{Bound, Conflict, Empty}
 use Rattle.ip_core.specs.declared.leaf.Record.{Record}
+use Rattle.ip_core.specs.Rows.{AreRows}
 use Rattle.ip_core.specs.declared.model.ModelParts.{ModelParts}
+use Rattle.ip_core.specs.declared.row.Row.{Row}
 use Rattle.search_truth.proofs.Within.{within_columns}
 use Rattle.row_propagate.specs.Passes.{Propagation, propagation_of}
 use Rattle.row_propagate.specs.declared.outcome.Outcome.{Outcome as Ended}
@@ -43,18 +45,18 @@ pub record IsNotAbove (z : ℤ) (entries : List Entry) : Type 0 where
 
 -- a record of the task's node, which these entries close: on the task's box the leaf holds at every
 -- value up to the task's cutoff and the values that are found
-pub record IsOfTask (m : ModelParts) (task : Task) (entries : List Entry) (item : Record) : Type 0
+pub record IsOfTask (m : ModelParts) (cuts : List Row) (task : Task) (entries : List Entry) (item : Record) : Type 0
   where
     pub named : item.node ≡ task.node
     pub leaf : (z : ℤ) → z ≤ℤ task.cutoff → IsNotAbove z entries
-        → IsValidLeaf m [] z task.bounds item.leaf
+        → IsValidLeaf m cuts z task.bounds item.leaf
     pub place : ℕ
     pub closed : at entries place ≡ Some (Closed item.node)
 
 -- each record of a chunk is one of the task's node, and a node that the chunk closes has one
-pub record AreOfTask (m : ModelParts) (task : Task) (chunk : TaskChunk) : Type 0 where
+pub record AreOfTask (m : ModelParts) (cuts : List Row) (task : Task) (chunk : TaskChunk) : Type 0 where
   pub each : (place : ℕ) (item : Record) → at chunk.records place ≡ Some item
-      → IsOfTask m task chunk.entries item
+      → IsOfTask m cuts task chunk.entries item
   pub closed : (place name : ℕ) → at chunk.entries place ≡ Some (Closed name)
       → HasRecord chunk.records name
 
@@ -107,10 +109,10 @@ split_closes_none node col mid first keep bound (suc place) name there =
 
 -- ---- a chunk that splits its node
 
-splitting_records : (m : ModelParts) (task : Task) (worker : Worker) (found : List Entry)
+splitting_records : (m : ModelParts) (cuts : List Row) (task : Task) (worker : Worker) (found : List Entry)
     (cutoff : ℤ) (work col : ℕ) (mid : ℤ) (keep : Keep) (bound : ℤ) → CloseNone found
-    → AreOfTask m task (splitting_chunk task worker found cutoff work col mid keep bound)
-splitting_records m task worker found cutoff work col mid keep bound none =
+    → AreOfTask m cuts task (splitting_chunk task worker found cutoff work col mid keep bound)
+splitting_records m cuts task worker found cutoff work col mid keep bound none =
     let first = child_name worker.slot (next_ordinal worker.splits) in
     let split : Entry = Split task.node col mid first (number_of keep) bound in
     record {
@@ -167,12 +169,12 @@ found_first found node z below = record {
       (Found value point) (at-front found (Closed node ∷ []) place (Found value point) there));
 }
 
-closing_records : (m : ModelParts) (task : Task) (splits : ℕ) (found : List Entry) (p : Progress)
+closing_records : (m : ModelParts) (cuts : List Row) (task : Task) (splits : ℕ) (found : List Entry) (p : Progress)
     (why : Closing) → CloseNone found
     → ((z : ℤ) → z ≤ℤ task.cutoff → IsNotAbove z found
-    → IsValidLeaf m [] z task.bounds (leaf_of p.steps why))
-    → AreOfTask m task (closing_chunk task.node splits found p why)
-closing_records m task splits found p why none holds = record {
+    → IsValidLeaf m cuts z task.bounds (leaf_of p.steps why))
+    → AreOfTask m cuts task (closing_chunk task.node splits found p why)
+closing_records m cuts task splits found p why none holds = record {
   each = each;
   closed = λ place name there. record {
     place = 0;
@@ -191,7 +193,7 @@ closing_records m task splits found p why none holds = record {
         at-front (found ++ Closed task.node ∷ []) (Done ∷ []) here.0 (Closed task.node) here.1,
       )
 
-  of_task : IsOfTask m task (closing_entries found task.node) item
+  of_task : IsOfTask m cuts task (closing_entries found task.node) item
   of_task = record {
     named = refl;
     leaf = λ z low below. holds z low (found_first found task.node z below);
@@ -200,73 +202,73 @@ closing_records m task splits found p why none holds = record {
   }
 
   each : (place : ℕ) (other : Record) → at (item ∷ []) place ≡ Some other
-      → IsOfTask m task (closing_entries found task.node) other
+      → IsOfTask m cuts task (closing_entries found task.node) other
   each zero other there =
-      subst (IsOfTask m task (closing_entries found task.node)) (same_some item other there) of_task
+      subst (IsOfTask m cuts task (closing_entries found task.node)) (same_some item other there) of_task
   each (suc place) other there = absurd (none_is_no_some other there)
 
 -- ---- a chunk after its ascent
 
-point_records : (m : ModelParts) (task : Task) (worker : Worker) (p : Progress) (a : Ascent)
+point_records : (m : ModelParts) (cuts : List Row) (task : Task) (worker : Worker) (p : Progress) (a : Ascent)
     (cutoff : ℤ) (found : List Entry) → CloseNone found
     → (cutoff ≤ℤ a.bound → (z : ℤ) → z ≤ℤ task.cutoff → IsNotAbove z found
-    → IsValidLeaf m [] z task.bounds (leaf_of p.steps (Bound (pairs_of (length m.rows) a.mults))))
-    → AreOfTask m task (after_point m task worker p a cutoff found)
-point_records m task worker p a cutoff found none holds =
+    → IsValidLeaf m cuts z task.bounds (leaf_of p.steps (Bound (pairs_of (length m.rows) a.mults))))
+    → AreOfTask m cuts task (after_point m task worker p a cutoff found)
+point_records m cuts task worker p a cutoff found none holds =
     let col = widest p.bounds in
     let mid = middle p.bounds col in
-    by_test (AreOfTask m task) (int_le cutoff a.bound) _ _
-    (λ t. closing_records m task worker.splits found p
+    by_test (AreOfTask m cuts task) (int_le cutoff a.bound) _ _
+    (λ t. closing_records m cuts task worker.splits found p
     (Bound (pairs_of (length m.rows) a.mults)) none (holds (le_from_test cutoff a.bound t)))
-    (λ t. splitting_records m task worker found cutoff p.work col mid
+    (λ t. splitting_records m cuts task worker found cutoff p.work col mid
     (kept_child task.nodes (int_at a.point col) mid) a.bound none)
 
 -- ---- one chunk of a task
 
-module _ (m : ModelParts) (worker : Worker) (task : Task) (valid : IsModel m)
-    (fits : IsTask m task) where
+module _ (m : ModelParts) (cuts : List Row) (worker : Worker) (task : Task) (valid : IsModel m)
+    (of_cuts : AreRows (length m.cols) m.root cuts) (fits : IsTask m task) where
   abbrev passes : Propagation
-  passes = propagation_of m.rows [] task.bounds
+  passes = propagation_of m.rows cuts task.bounds
 
   abbrev climb : Ascent
-  climb = ascent_of m passes.sides
+  climb = ascent_of m cuts passes.sides
 
   columns : length task.bounds.lows ≡ length m.cols
   columns = within_columns m task.bounds valid fits.within
 
   -- the multipliers make a leaf that holds at every value up to their bound
   leaf_below : passes.run.outcome ≡ ended.Open → (z : ℤ) → z ≤ℤ climb.bound
-      → IsValidLeaf m [] z task.bounds
+      → IsValidLeaf m cuts z task.bounds
       (leaf_of passes.steps (Bound (pairs_of (length m.rows) climb.mults)))
   leaf_below goes z high =
-      bound_leaf m task.bounds z climb.mults valid columns goes
-      (ascent_has_multipliers m [] passes.sides) high
+      bound_leaf m cuts task.bounds z climb.mults valid of_cuts columns goes
+      (ascent_has_multipliers m cuts passes.sides) high
 
   found_records : (found : Bool) → passes.run.outcome ≡ ended.Open
-      → AreOfTask m task (on_point m task worker (progress_of passes climb.work) climb found)
+      → AreOfTask m cuts task (on_point m task worker (progress_of passes climb.work) climb found)
   found_records true goes =
       let value = value_at m climb.point in
-      point_records m task worker (progress_of passes climb.work) climb value
+      point_records m cuts task worker (progress_of passes climb.work) climb value
       (Found value climb.point ∷ []) (found_closes_none value climb.point)
       (λ high z low below. leaf_below goes z
       (up_to z value climb.bound (below.each 0 value climb.point refl) high))
   found_records false goes =
-      point_records m task worker (progress_of passes climb.work) climb task.cutoff []
+      point_records m cuts task worker (progress_of passes climb.work) climb task.cutoff []
       none_close_none
       (λ high z low below. leaf_below goes z (up_to z task.cutoff climb.bound low high))
 
   closed_records : (why : Closing) → closing_of passes.run.outcome ≡ Some why
-      → AreOfTask m task (closing_chunk task.node worker.splits [] (progress_of passes 0) why)
+      → AreOfTask m cuts task (closing_chunk task.node worker.splits [] (progress_of passes 0) why)
   closed_records why closes =
-      closing_records m task worker.splits [] (progress_of passes 0) why none_close_none
-      (λ z low below. outcome_leaf m task.bounds z why valid columns closes)
+      closing_records m cuts task worker.splits [] (progress_of passes 0) why none_close_none
+      (λ z low below. outcome_leaf m cuts task.bounds z why valid of_cuts columns closes)
 
   outcome_records : (o : Ended) → passes.run.outcome ≡ o
-      → AreOfTask m task (after_passes m task worker passes o)
+      → AreOfTask m cuts task (after_passes m cuts task worker passes o)
   outcome_records ended.Open is = found_records (is_found m task.cutoff climb) is
   outcome_records (ended.Conflict row) is = closed_records (Conflict row) (ap closing_of is)
   outcome_records (ended.Empty col) is = closed_records (Empty col) (ap closing_of is)
 
   -- what the records of a chunk say is so
-  pub chunk_records : AreOfTask m task (node_chunk m worker task)
+  pub chunk_records : AreOfTask m cuts task (node_chunk m cuts worker task)
   chunk_records = outcome_records passes.run.outcome refl

@@ -48,15 +48,15 @@ absorb_joins m es v i e history within is seen =
 -- the view of one entry more
 pub view_step : (m : ModelParts) (es : List KeyedEntry) (v w : View) (i : ℕ) (e : KeyedEntry)
     → i < length es → e ≡ get_or es i e → v ≡ view_of m splits_alone (take i es)
-    → w ≡ after_entry v e.entry → w ≡ view_of m splits_alone (take (i + 1) es)
+    → w ≡ after_entry m v e.entry → w ≡ view_of m splits_alone (take (i + 1) es)
 view_step m es v w i e within is seen after =
     let more : take (i + 1) es ≡ take i es ++ get_or es i e ∷ [] =
     ap (λ (n : ℕ). take n es) (add-one i) ∙ take-suc es i e within in
-    let here : w ≡ after_entry (view_of m splits_alone (take i es)) (get_or es i e).entry =
-    after ∙ ap (λ (u : View). after_entry u e.entry) seen
-    ∙ ap (λ (x : KeyedEntry). after_entry (view_of m splits_alone (take i es)) x.entry) is in
+    let here : w ≡ after_entry m (view_of m splits_alone (take i es)) (get_or es i e).entry =
+    after ∙ ap (λ (u : View). after_entry m u e.entry) seen
+    ∙ ap (λ (x : KeyedEntry). after_entry m (view_of m splits_alone (take i es)) x.entry) is in
     here ∙ sym (ap (λ (h : List KeyedEntry). view_of m splits_alone h) more
-    ∙ view_next (fresh_view m splits_alone) (take i es) (get_or es i e))
+    ∙ view_next m (fresh_view m splits_alone) (take i es) (get_or es i e))
 
 -- the best point after one more of the entries that are left
 pub best_step : (es : List KeyedEntry) (best after whole : Option Best) (i : ℕ) (e : KeyedEntry)

@@ -11,6 +11,7 @@ use Rattle.ip_core.specs.Truth.{value_at}
 use Rattle.ip_core.specs.declared.leaf.Closing.{Closing}
 use Rattle.ip_core.specs.declared.leaf.Closing.TheVariants.{Bound, Conflict, Empty}
 use Rattle.ip_core.specs.declared.model.ModelParts.{ModelParts}
+use Rattle.ip_core.specs.declared.row.Row.{Row}
 use Rattle.row_propagate.specs.Passes.{Propagation, propagation_of}
 use Rattle.row_propagate.specs.declared.outcome.Outcome.{Outcome as Ended}
 use Rattle.row_propagate.specs.declared.outcome.Outcome.TheVariants as ended
@@ -75,30 +76,30 @@ children_halt v low high (suc zero) = refl
 children_halt v low high (suc (suc more)) = refl
 
 -- an entry that is no Halt leaves it as it was whether one stands
-entry_halt : (v : View) (e : Entry) → is_halt e ≡ false → (after_entry v e).has_halt ≡ v.has_halt
-entry_halt v (Start node) none = refl
-entry_halt v CutStart none = refl
-entry_halt v (HeurStart node) none = refl
-entry_halt v Done none = refl
-entry_halt v (Found value point) none = refl
-entry_halt v (Cut derivation) none = refl
-entry_halt v (Split node col at first keep bound) none =
+entry_halt : (m : ModelParts) (v : View) (e : Entry) → is_halt e ≡ false → (after_entry m v e).has_halt ≡ v.has_halt
+entry_halt m v (Start node) none = refl
+entry_halt m v CutStart none = refl
+entry_halt m v (HeurStart node) none = refl
+entry_halt m v Done none = refl
+entry_halt m v (Found value point) none = refl
+entry_halt m v (Cut derivation) none = refl
+entry_halt m v (Split node col at first keep bound) none =
     children_halt (base_of v node col at first bound) (open_node first bound)
     (open_node (first + 1) bound) keep
-entry_halt v (Closed node) none = refl
-entry_halt v Halt none = absurd (false≢true (sym none))
+entry_halt m v (Closed node) none = refl
+entry_halt m v Halt none = absurd (false≢true (sym none))
 
-halt_stays : (v : View) (e : Entry) (b : Bool) → is_halt e ≡ b → v.has_halt ≡ true
-    → (after_entry v e).has_halt ≡ true
-halt_stays v e true is h = ap (λ (x : Entry). (after_entry v x).has_halt) (halt_is e is)
-halt_stays v e false is h = entry_halt v e is ∙ h
+halt_stays : (m : ModelParts) (v : View) (e : Entry) (b : Bool) → is_halt e ≡ b → v.has_halt ≡ true
+    → (after_entry m v e).has_halt ≡ true
+halt_stays m v e true is h = ap (λ (x : Entry). (after_entry m v x).has_halt) (halt_is e is)
+halt_stays m v e false is h = entry_halt m v e is ∙ h
 
 module _ (m : ModelParts) (settings : SearchSettings) where
   halt_on : (v : View) (es : List KeyedEntry) → v.has_halt ≡ true
       → (view_after (rules m settings) v es).has_halt ≡ true
   halt_on v [] h = h
   halt_on v (e ∷ es) h =
-      halt_on (after_entry v e.entry) es (halt_stays v e.entry (is_halt e.entry) refl h)
+      halt_on (after_entry m v e.entry) es (halt_stays m v e.entry (is_halt e.entry) refl h)
 
   -- a Halt of a history stands in its view
   halt_is_seen : (v : View) (es : List KeyedEntry) (k : Key) (place : ℕ)
@@ -106,15 +107,15 @@ module _ (m : ModelParts) (settings : SearchSettings) where
       → (view_after (rules m settings) v es).has_halt ≡ true
   halt_is_seen v [] k place there = absurd (none-some (keyed_entry k Halt) there)
   halt_is_seen v (e ∷ es) k zero there =
-      halt_on (after_entry v e.entry) es
-      (ap (λ (x : KeyedEntry). (after_entry v x.entry).has_halt)
+      halt_on (after_entry m v e.entry) es
+      (ap (λ (x : KeyedEntry). (after_entry m v x.entry).has_halt)
       (same_Some e (keyed_entry k Halt) there))
   halt_is_seen v (e ∷ es) k (suc place) there =
-      halt_is_seen (after_entry v e.entry) es k place there
+      halt_is_seen (after_entry m v e.entry) es k place there
 
   -- and one that stands in the view stands in the history
   halt_here : (v : View) (e : KeyedEntry) (es : List KeyedEntry) (b : Bool) → is_halt e.entry ≡ b
-      → (after_entry v e.entry).has_halt ≡ true
+      → (after_entry m v e.entry).has_halt ≡ true
       → (v.has_halt ≡ true) ⊎ ((k : Key) × HasHalt (e ∷ es) k)
   halt_here v e es true is h =
       inr (
@@ -124,10 +125,10 @@ module _ (m : ModelParts) (settings : SearchSettings) where
           there = ap (λ (x : Entry). Some (keyed_entry e.key x)) (halt_is e.entry is);
         },
       )
-  halt_here v e es false is h = inl (sym (entry_halt v e.entry is) ∙ h)
+  halt_here v e es false is h = inl (sym (entry_halt m v e.entry is) ∙ h)
 
   halt_cases : (v : View) (e : KeyedEntry) (es : List KeyedEntry)
-      → ((after_entry v e.entry).has_halt ≡ true) ⊎ ((k : Key) × HasHalt es k)
+      → ((after_entry m v e.entry).has_halt ≡ true) ⊎ ((k : Key) × HasHalt es k)
       → (v.has_halt ≡ true) ⊎ ((k : Key) × HasHalt (e ∷ es) k)
   halt_cases v e es (inl h) = halt_here v e es (is_halt e.entry) refl h
   halt_cases v e es (inr (k, x)) = inr (k, record { place = suc x.place; there = x.there })
@@ -136,7 +137,7 @@ module _ (m : ModelParts) (settings : SearchSettings) where
       → (view_after (rules m settings) v es).has_halt ≡ true
       → (v.has_halt ≡ true) ⊎ ((k : Key) × HasHalt es k)
   halt_stands v [] h = inl h
-  halt_stands v (e ∷ es) h = halt_cases v e es (halt_stands (after_entry v e.entry) es h)
+  halt_stands v (e ∷ es) h = halt_cases v e es (halt_stands (after_entry m v e.entry) es h)
 
 -- ---- no task gives a Halt
 
@@ -183,22 +184,22 @@ on_point_quiet m task worker p a true =
     (Found (value_at m a.point) a.point ∷ []) refl
 on_point_quiet m task worker p a false = after_point_quiet m task worker p a task.cutoff [] refl
 
-passes_quiet : (m : ModelParts) (task : Task) (worker : Worker) (p : Propagation) (o : Ended)
-    → IsQuiet (after_passes m task worker p o)
-passes_quiet m task worker p ended.Open =
-    let a = ascent_of m p.sides in
+passes_quiet : (m : ModelParts) (cuts : List Row) (task : Task) (worker : Worker) (p : Propagation) (o : Ended)
+    → IsQuiet (after_passes m cuts task worker p o)
+passes_quiet m cuts task worker p ended.Open =
+    let a = ascent_of m cuts p.sides in
     on_point_quiet m task worker (progress_of p a.work) a (is_found m task.cutoff a)
-passes_quiet m task worker p (ended.Conflict row) =
+passes_quiet m cuts task worker p (ended.Conflict row) =
     closing_quiet task.node worker.splits [] (progress_of p 0) (Conflict row) refl
-passes_quiet m task worker p (ended.Empty col) =
+passes_quiet m cuts task worker p (ended.Empty col) =
     closing_quiet task.node worker.splits [] (progress_of p 0) (Empty col) refl
 
 local_quiet : (m : ModelParts) (l : Local) (o : Option Task)
     → has_halt (chunk_of m l o).gives.entries ≡ false
 local_quiet m l None = refl
 local_quiet m l (Some task) =
-    let p = propagation_of m.rows [] task.bounds in
-    passes_quiet m task (record { slot = l.slot; splits = l.splits }) p p.run.outcome
+    let p = propagation_of m.rows l.cuts task.bounds in
+    passes_quiet m l.cuts task (record { slot = l.slot; splits = l.splits }) p p.run.outcome
 
 take_quiet : (m : ModelParts) (v : View) (l : Local) (pick : Pick)
     → has_halt (entries_of (begin_by m v l pick).does) ≡ false
@@ -250,9 +251,9 @@ held_cases false opened (x ∷ xs) name among over =
     (and_true (nat_eq (length opened) 0) (nat_eq (length (x ∷ xs)) 0) over).1)
 
 over_stays : (m : ModelParts) (v : View) (e : Entry) → MayJoin m v e → is_over v ≡ true
-    → is_over (after_entry v e) ≡ true
+    → is_over (after_entry m v e) ≡ true
 over_stays m v (Start node) may over =
-    halt_over (after_entry v (Start node))
+    halt_over (after_entry m v (Start node))
     (open_cases v.has_halt v.open_nodes v.held_nodes node may.node may.first over)
 over_stays m v CutStart may over = over
 over_stays m v (HeurStart node) may over = over
@@ -260,12 +261,12 @@ over_stays m v Done may over = over
 over_stays m v (Found value point) may over = over
 over_stays m v (Cut derivation) may over = over
 over_stays m v (Split node col at first keep bound) may over =
-    halt_over (after_entry v (Split node col at first keep bound))
+    halt_over (after_entry m v (Split node col at first keep bound))
     (children_halt (base_of v node col at first bound) (open_node first bound)
     (open_node (first + 1) bound) keep
     ∙ held_cases v.has_halt v.open_nodes v.held_nodes node may.held.among over)
 over_stays m v (Closed node) may over =
-    halt_over (after_entry v (Closed node))
+    halt_over (after_entry m v (Closed node))
     (held_cases v.has_halt v.open_nodes v.held_nodes node may.among over)
 over_stays m v Halt may over = refl
 
@@ -333,7 +334,7 @@ module _ (m : ModelParts) (settings : SearchSettings) (valid : IsModel m) (paire
   over_after front [] follow over = over
   over_after front (e ∷ es) follow over =
       let v = search_view m settings front in
-      let next : search_view m settings (front ++ e ∷ []) ≡ after_entry v e.entry =
+      let next : search_view m settings (front ++ e ∷ []) ≡ after_entry m v e.entry =
       view_after-append (rules m settings) (fresh_view m settings) front (e ∷ []) in
       let may : MayFollow m v e.entry = subst (λ (w : View). MayFollow m w e.entry)
       (sym (same_view m settings front)) follow.0 in

@@ -7,6 +7,7 @@ use Rattle.ip_core.specs.declared.leaf.Record.{Record}
 use Rattle.ip_core.specs.declared.model.ModelParts.{ModelParts}
 use Rattle.ip_core.specs.declared.row.Row.{Row}
 use Rattle.leaf_truth.specs.Leaves.{IsValidLeaf}
+use Rattle.leaf_truth.proofs.OverMore.{leaf_holds_over_more}
 use Rattle.work_stamp.specs.Histories.{FollowInTurn, keyed_entry, under}
 use Rattle.work_stamp.specs.Taskers.{Standing, standing, view_of as rules_view}
 use Rattle.work_stamp.specs.declared.entry.Entry.{Entry}
@@ -23,7 +24,8 @@ use Rattle.stamp_machine.proofs.Places.{none_is_no_some}
 use Rattle.stamp_machine.proofs.Records.{at-under, entry_stands, origins_told, part_at, record_stands, records_told}
 use Rattle.node_pool.specs.Branchings.{box_of}
 use Rattle.node_pool.specs.Follows.{IsHeld}
-use Rattle.node_pool.specs.Laws.{AreKnown}
+use Rattle.node_pool.specs.Laws.{AreKnown, HasCutsOf}
+use Rattle.node_pool.specs.Lemmas.Cuts.{more_cuts}
 use Rattle.node_pool.specs.Views.{View, fresh_view, is_known, view_after, view_of}
 use Rattle.node_pool.specs.declared.settings.SearchSettings.{SearchSettings}
 use Rattle.task_steps.specs.Agrees.{Agrees, MayFollowIn, Stands}
@@ -41,18 +43,21 @@ use Rattle.task_steps.specs.Lemmas.Beginning.{taken_is}
 use Rattle.task_steps.specs.Lemmas.Fitting.{held_known}
 use Rattle.task_steps.specs.Lemmas.Histories.{view_with, with_settings}
 use Rattle.task_steps.specs.Lemmas.TaskChunks.{worker_of}
+use Rattle.task_steps.specs.Lemmas.TaskCuts.{cut_rows}
 use Rattle.task_steps.proofs.ChunkRecords.{AreOfTask, IsNotAbove, IsOfTask, chunk_records}
-use Rattle.task_steps.proofs.LaterViews.{IsLater, later_view, no_cuts, up_to, view_append}
+use Rattle.task_steps.proofs.LaterViews.{IsLater, later_view, up_to, view_append}
 use Rattle.task_steps.proofs.Truths.{history_is_read, law}
 
 -- ---- what the history holds for a task
 
--- a view that holds the task's node with the task's box, and whose cutoff is at most the task's
-record IsHolding (m : ModelParts) (v : View) (task : Task) : Type 0 where
+-- a view that holds the task's node with the task's box, whose cutoff is at most the task's, and whose
+-- first cuts are these
+record IsHolding (m : ModelParts) (v : View) (cuts : List Row) (task : Task) : Type 0 where
   held : IsHeld v task.node
   known : is_known v task.node ≡ true
   box : box_of m.root v.branches task.node ≡ task.bounds
   cutoff : v.cutoff ≤ℤ task.cutoff
+  front : HasCutsOf cuts v.cuts
 
 -- the settings of a view don't tell what it holds
 held_with : (v : View) (s : SearchSettings) (name : ℕ) → IsHeld (with_settings v s) name
@@ -65,8 +70,8 @@ known_with v s known = record { opened = known.opened; held = known.held }
 -- so does a view that holds for a claim, where a task stands at the claim
 claim_holding : (m : ModelParts) (settings : SearchSettings) (v w : View) (c : Claim) (task : Task)
     → w ≡ with_settings v settings → IsOn c task → AreKnown w → HasHold m w c.hold
-    → w.cutoff ≤ℤ c.cutoff → IsHolding m v task
-claim_holding m settings v w c task same on known hold low =
+    → w.cutoff ≤ℤ c.cutoff → HasCutsOf c.cuts w.cuts → IsHolding m v c.cuts task
+claim_holding m settings v w c task same on known hold low front =
     let has : HasHeld m (with_settings v settings) on.node =
     subst (λ (u : View). HasHeld m u on.node) same (subst (HasHold m w) on.is hold) in
     let held : IsHeld v task.node =
@@ -78,20 +83,23 @@ claim_holding m settings v w c task same on known hold low =
           ∙ on.boxed;
       cutoff = subst (λ (z : ℤ). v.cutoff ≤ℤ z) on.cutoff
           (subst (λ (u : View). u.cutoff ≤ℤ c.cutoff) same low);
+      front = subst (λ (u : View). HasCutsOf c.cuts u.cuts) same front;
     }
 
 -- and so does the view of a history, where slots agree with it
 slot_holding : (m : ModelParts) (settings : SearchSettings) (history : List KeyedEntry)
     (slots : List (Option (Standing Local))) (slot : ℕ) (l : Local) (task : Task)
     → Agrees m settings history slots → get_or slots slot None ≡ standing l []
-    → l.task ≡ Some task → IsHolding m (view_of m splits_alone history) task
+    → l.task ≡ Some task → IsHolding m (view_of m splits_alone history) l.cuts task
 slot_holding m settings history slots slot l task agrees there works =
     let c = agrees.claims slot in
     let stands : IsAt m slot c l = subst (Stands m slot c) there (agrees.ready slot) in
     let owed = agrees.meets.owed slot in
-    claim_holding m settings (view_of m splits_alone history) (view_of m settings history) c task
+    subst (λ (cuts : List Row). IsHolding m (view_of m splits_alone history) cuts task)
+    (sym stands.cuts)
+    (claim_holding m settings (view_of m splits_alone history) (view_of m settings history) c task
     (view_with m settings splits_alone history) (subst (IsAtTask c) works stands.task)
-    agrees.meets.fits.known owed.held owed.cutoff
+    agrees.meets.fits.known owed.held owed.cutoff owed.cuts)
 
 some_task : (o : Option Task) → is_none o ≡ false → (task : Task) × (o ≡ Some task)
 some_task None busy = absurd (true≢false busy)
@@ -123,7 +131,7 @@ module _ (m : ModelParts) (settings : SearchSettings) (valid : IsModel m) (paire
 
   -- the chunk of a slot on its task
   abbrev chunk : Local → Task → TaskChunk
-  chunk l task = node_chunk m (worker_of l) task
+  chunk l task = node_chunk m l.cuts (worker_of l) task
 
   -- where such a chunk joined
   abbrev IsJoined : List Record → Key → Local → Type 0
@@ -132,9 +140,10 @@ module _ (m : ModelParts) (settings : SearchSettings) (valid : IsModel m) (paire
 
   -- what its records say
   chunk_says : (items : List Record) (key : Key) (l : Local) (task : Task) → IsJoined items key l
-      → l.task ≡ Some task → AreOfTask m task (chunk l task)
+      → l.task ≡ Some task → AreOfTask m l.cuts task (chunk l task)
   chunk_says items key l task joined works =
-      chunk_records m (worker_of l) task valid (subst (FitsTask m) works joined.stood.fits.task)
+      chunk_records m l.cuts (worker_of l) task valid
+      (cut_rows m l.cuts valid joined.stood.fits.cuts) (subst (FitsTask m) works joined.stood.fits.task)
 
   -- the whole history against a front of it
   later_than : (front rest : List KeyedEntry) → entries ≡ front ++ rest
@@ -144,9 +153,9 @@ module _ (m : ModelParts) (settings : SearchSettings) (valid : IsModel m) (paire
       follow-right (MayFollowIn m splits_alone) [] front rest
       (subst (λ (es : List KeyedEntry). FollowInTurn (MayFollowIn m splits_alone) [] es) whole
       (history_is_read m settings valid paired limits ranges).follow) in
-      let same : view_after (view_of m splits_alone front) rest ≡ last_view =
+      let same : view_after m (view_of m splits_alone front) rest ≡ last_view =
       sym (ap (λ (es : List KeyedEntry). view_of m splits_alone es) whole
-      ∙ view_append (fresh_view m splits_alone) front rest) in
+      ∙ view_append m (fresh_view m splits_alone) front rest) in
       subst (λ (w : View). IsLater m (view_of m splits_alone front) w rest) same
       (later_view m splits_alone front rest follow)
 
@@ -169,7 +178,7 @@ module _ (m : ModelParts) (settings : SearchSettings) (valid : IsModel m) (paire
       let stood = joined.stood in
       let v = view_of m splits_alone stood.front in
       let said = chunk_says (records slot) key l task joined works in
-      let of_task : IsOfTask m task (chunk l task).entries item = said.each place item
+      let of_task : IsOfTask m l.cuts task (chunk l task).entries item = said.each place item
       (subst (λ (o : Option Task). at (chunk_of m l o).gives.records place ≡ Some item) works there)
       in
       let holding = slot_holding m settings stood.front stood.slots key.slot l task stood.agrees
@@ -183,10 +192,11 @@ module _ (m : ModelParts) (settings : SearchSettings) (valid : IsModel m) (paire
       (sym of_task.named) (after.boxes task.node holding.known) in
       let box : box_of m.root last_view.branches item.node ≡ task.bounds =
       same ∙ ap (λ (n : ℕ). box_of m.root v.branches n) of_task.named ∙ holding.box in
-      let leaf : IsValidLeaf m [] last_view.cutoff task.bounds item.leaf =
+      let leaf : IsValidLeaf m l.cuts last_view.cutoff task.bounds item.leaf =
       of_task.leaf last_view.cutoff
       (up_to last_view.cutoff v.cutoff task.cutoff after.falls holding.cutoff)
       (not_above v key (chunk l task).entries stood.later part after) in
+      let front = more_cuts l.cuts v.cuts last_view.cuts holding.front after.cuts in
       let closed = entry_stands View Local (rules m settings) (FitsLocal m) (Agrees m settings)
       entries (records slot) key l joined of_task.place (Closed item.node)
       (subst (λ (o : Option Task). at (chunk_of m l o).gives.entries of_task.place
@@ -199,10 +209,10 @@ module _ (m : ModelParts) (settings : SearchSettings) (valid : IsModel m) (paire
           held = subst (IsHeld v) (sym of_task.named) holding.held;
           same_box = same;
         };
-        leaf = subst (λ (cuts : List Row). IsValidLeaf m cuts last_view.cutoff
-            (box_of m.root last_view.branches item.node) item.leaf)
-            (sym (no_cuts m splits_alone entries))
-            (subst (λ (s : Sides). IsValidLeaf m [] last_view.cutoff s item.leaf) (sym box) leaf);
+        leaf = subst (λ (s : Sides). IsValidLeaf m last_view.cuts last_view.cutoff s item.leaf)
+            (sym box) (subst (λ (cuts : List Row).
+            IsValidLeaf m cuts last_view.cutoff task.bounds item.leaf) (sym front.whole)
+            (leaf_holds_over_more m l.cuts front.more last_view.cutoff task.bounds item.leaf leaf));
         closed = record { place = closed.0; key = key; own = own; there = closed.1 };
       }
 

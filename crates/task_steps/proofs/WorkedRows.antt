@@ -43,7 +43,7 @@ free = record {
 }
 
 -- one pass and twelve rounds; the ends are a point that is found, and its value closes the node
-pub found_at_once : node_chunk free (worker 0) (task 0 unit (pos 2) 1) ≡ record {
+pub found_at_once : node_chunk free [] (worker 0) (task 0 unit (pos 2) 1) ≡ record {
   entries = Found (pos 0) (pos 0 ∷ []) ∷ Closed 0 ∷ Done ∷ [];
   records = record_of 0 [] (Bound []) ∷ [];
   work = 14;
@@ -82,7 +82,7 @@ odd = record {
 
 -- one pass of 7 and eleven rounds of 19: the first column is split, and the task goes on with its
 -- low child
-pub first_split : node_chunk odd (worker 0) (task 0 units (pos 1) 1) ≡ record {
+pub first_split : node_chunk odd [] (worker 0) (task 0 units (pos 1) 1) ≡ record {
   entries = Split 0 0 (pos 0) 4 0 (pos 0) ∷ [];
   records = [];
   work = 217;
@@ -98,7 +98,7 @@ first_split = refl
 
 -- there the first row raises two lows, and the second then asks for too much: the passes close the
 -- node
-pub low_child_closed : node_chunk odd (worker 1)
+pub low_child_closed : node_chunk odd [] (worker 1)
     (task 4 (record { lows = pos 0 ∷ pos 0 ∷ pos 0 ∷ []; highs = pos 0 ∷ pos 1 ∷ pos 1 ∷ [] })
     (pos 1) 2) ≡ record {
       entries = Closed 4 ∷ Done ∷ [];

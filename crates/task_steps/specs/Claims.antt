@@ -2,9 +2,11 @@
 use Rattle.std.specs.Prelude.{ℕ, ◌≡◌, ◌≤◌, ◌<◌, ◌+◌, ◌^◌, Bool, true, false, nat_eq, if◌then◌else◌, ℤ, ◌≤ℤ◌, List, [], ◌∷◌, Option, Some, None}
 use Rattle.ip_core.specs.Sides.{Sides}
 use Rattle.ip_core.specs.declared.model.ModelParts.{ModelParts}
+use Rattle.ip_core.specs.declared.row.Row.{Row}
 use Rattle.search_truth.specs.Boxes.{IsClosed, low_child, high_child}
 use Rattle.node_pool.specs.Branchings.{box_of}
 use Rattle.node_pool.specs.Follows.{IsHeld, IsSplitPoint, IsValued}
+use Rattle.node_pool.specs.Laws.{HasCutsOf}
 use Rattle.node_pool.specs.Views.{View, is_known}
 use Rattle.node_pool.specs.declared.node.OpenNode.{OpenNode}
 use Rattle.work_stamp.specs.declared.entry.Entry.{Entry}
@@ -24,12 +26,13 @@ pub record Held : Type 0 where
   pub name : ℕ
   pub bounds : Sides
 
--- A slot's claim on the history: the node that it holds, a value that is not below the cutoff, and
--- how many of its splits have joined.
+-- A slot's claim on the history: the node that it holds, a value that is not below the cutoff, how
+-- many of its splits have joined, and cuts that stand before all others.
 pub record Claim : Type 0 where
   pub hold : Option Held
   pub cutoff : ℤ
   pub splits : ℕ
+  pub cuts : List Row
 
 -- the claims of all slots, where one of them is replaced
 abbrev pub claims_with : (ℕ → Claim) → ℕ → Claim → ℕ → Claim
@@ -46,11 +49,12 @@ HasHold m v None = Unit {0}
 HasHold m v (Some node) = HasHeld m v node
 
 -- what a history of this view owes a slot for its claim: its node stays held, the cutoff only
--- falls, and the names of its further splits stay new
+-- falls, its cuts stay in front, and the names of its further splits stay new
 pub record IsOwed (m : ModelParts) (v : View) (slot : ℕ) (c : Claim) : Type 0 where
   pub held : HasHold m v c.hold
   pub cutoff : v.cutoff ≤ℤ c.cutoff
   pub few : c.splits ≤ v.entries
+  pub cuts : HasCutsOf c.cuts v.cuts
   pub first_new : (k : ℕ) → c.splits < k → k ≤ 2 ^ 37
       → is_known v (child_name slot k) ≡ false
   pub second_new : (k : ℕ) → c.splits < k → k ≤ 2 ^ 37
@@ -167,6 +171,7 @@ pub record IsAt (m : ModelParts) (slot : ℕ) (c : Claim) (l : Local) : Type 0 w
   pub fits : FitsLocal m l
   pub own : l.slot ≡ slot
   pub splits : l.splits ≡ c.splits
+  pub cuts : l.cuts ≡ c.cuts
   pub task : IsAtTask c l.task
 
 -- each pending entry is due when those before it have joined, and after the last one the slot

@@ -1,9 +1,12 @@
 -- Which tasks the calls take.
-use Rattle.std.specs.Prelude.{ℕ, ◌≡◌, ◌≤◌, ◌<◌, ◌^◌, true, pos, ◌≤ℤ◌, unsigned_abs, Option, Some, None}
+use Rattle.std.specs.Prelude.{ℕ, ◌≡◌, ◌≤◌, ◌<◌, ◌^◌, true, pos, ◌≤ℤ◌, unsigned_abs, List, length, Option, Some, None}
 use Rattle.ip_core.specs.Numbers.{int_at}
 use Rattle.ip_core.specs.Sides.{Sides, IsPaired}
 use Rattle.ip_core.specs.Boxes.{IsWithin}
 use Rattle.ip_core.specs.declared.model.ModelParts.{ModelParts}
+use Rattle.ip_core.specs.declared.row.Row.{Row}
+use Rattle.cut_derive.specs.Laws.{AreDerived}
+use Rattle.cut_derive.specs.declared.limits.TheConstants.{MAX_CUTS}
 use Rattle.node_pool.specs.Branchings.{box_of}
 use Rattle.node_pool.specs.Laws.{AreKnown}
 use Rattle.node_pool.specs.Views.{View, is_known}
@@ -30,15 +33,21 @@ pub record IsWorker (worker : Worker) : Type 0 where
   pub slot : worker.slot < 64
   pub few : worker.splits ≤ 2 ^ 37
 
+-- at most 512 cuts, each derived from the model's rows and the cuts before it
+pub record AreFewDerived (m : ModelParts) (cuts : List Row) : Type 0 where
+  pub derived : AreDerived m cuts
+  pub few : length cuts ≤ MAX_CUTS
+
 -- the same of a task, with nothing to say where there is none
 abbrev pub FitsTask : ModelParts → Option Task → Type 0
 FitsTask m None = Unit {0}
 FitsTask m (Some task) = IsTask m task
 
--- a local whose task fits
+-- a local whose cuts and task fit
 pub record FitsLocal (m : ModelParts) (l : Local) : Type 0 where
   pub slot : l.slot < 64
   pub few : l.splits ≤ 2 ^ 37
+  pub cuts : AreFewDerived m l.cuts
   pub task : FitsTask m l.task
 
 -- a node with a name of one word, whose box lies in the root box
@@ -48,8 +57,9 @@ pub record IsBoxed (m : ModelParts) (v : View) (name : ℕ) : Type 0 where
   pub paired : IsPaired (box_of m.root v.branches name)
 
 -- a view whose open and held nodes have known names, and in which each known name has a box in
--- the root box; its cutoff is at most 2^51
+-- the root box; its cutoff is at most 2^51, and its cuts are derived
 pub record FitsView (m : ModelParts) (v : View) : Type 0 where
   pub known : AreKnown v
   pub boxed : (name : ℕ) → is_known v name ≡ true → IsBoxed m v name
   pub cutoff : v.cutoff ≤ℤ pos (2 ^ 51)
+  pub cuts : AreFewDerived m v.cuts

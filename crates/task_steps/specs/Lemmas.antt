@@ -3,6 +3,7 @@
 -- alone.
 pub mod Feasible
 pub mod LawfulPasses
+pub mod TaskCuts
 pub mod Reasons
 pub mod Columns
 pub mod TaskChunks

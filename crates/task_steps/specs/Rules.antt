@@ -18,19 +18,23 @@ use Rattle.task_steps.specs.declared.task_chunk.TaskChunk.{TaskChunk}
 
 -- a slot that has split nothing, between tasks
 abbrev pub fresh_local : ℕ → Local
-fresh_local slot = record { slot = slot; splits = 0; task = None }
+fresh_local slot = record { slot = slot; splits = 0; cuts = []; task = None }
 
 -- a task on a node of the view, with the node's box and the cutoff of the view at its start
 abbrev pub task_on : ModelParts → View → ℕ → Task
 task_on m v node =
     record { node = node; bounds = box_of m.root v.branches node; cutoff = v.cutoff; nodes = 1 }
 
+-- a slot that takes a node, with the cuts of the view
+abbrev pub local_on : ModelParts → View → Local → ℕ → Local
+local_on m v l node = record l { cuts = v.cuts; task = Some (task_on m v node) }
+
 -- what a slot does for its pick: it takes the node, waits where nothing is open, and is over where
 -- the search is; a search by splits alone has no other pick
 abbrev pub begin_by : ModelParts → View → Local → Pick → AfterBegin Local
 begin_by m v l Over = record { does = End; local = l }
 begin_by m v l (Node node) =
-    record { does = Take (Start node ∷ []); local = record l { task = Some (task_on m v node) } }
+    record { does = Take (Start node ∷ []); local = local_on m v l node }
 begin_by m v l Nothing = record { does = Idle; local = l }
 begin_by m v l CutLoop = record { does = Idle; local = l }
 begin_by m v l (Heuristic node) = record { does = Idle; local = l }
@@ -51,14 +55,14 @@ abbrev pub chunk_of : ModelParts → Local → Option Task → AfterChunk Local
 chunk_of m l None =
     after_chunk l (record { entries = []; records = []; work = 0; task = None; splits = l.splits })
 chunk_of m l (Some task) =
-    after_chunk l (node_chunk m (record { slot = l.slot; splits = l.splits }) task)
+    after_chunk l (node_chunk m l.cuts (record { slot = l.slot; splits = l.splits }) task)
 
 -- the definitions of the search
 abbrev pub rules : ModelParts → SearchSettings → Rules View Local
 rules m settings = record {
   fresh_view = fresh_view m settings;
   fresh_local = fresh_local;
-  absorb = λ v key entry. after_entry v entry;
+  absorb = λ v key entry. after_entry m v entry;
   at_start = λ l. is_none l.task;
   begin = begin_of m;
   chunk = λ l. chunk_of m l l.task;

@@ -6,6 +6,7 @@ use Rattle.ip_core.specs.Truth.{value_at}
 use Rattle.ip_core.specs.declared.leaf.Closing.{Closing}
 use Rattle.ip_core.specs.declared.leaf.Closing.TheVariants.{Conflict, Empty, Bound}
 use Rattle.ip_core.specs.declared.model.ModelParts.{ModelParts}
+use Rattle.ip_core.specs.declared.row.Row.{Row}
 use Rattle.search_truth.specs.Boxes.{low_child, high_child}
 use Rattle.row_propagate.specs.Passes.{propagation_of, Propagation}
 use Rattle.row_propagate.specs.declared.outcome.Outcome.{Outcome as Ended}
@@ -115,15 +116,15 @@ on_point m task worker p a found =
     (Found (value_at m a.point) a.point ∷ [])
     else after_point m task worker p a task.cutoff []
 
--- the ascent over a box
-abbrev pub ascent_of : ModelParts → Sides → Ascent
-ascent_of m s =
-    let ys = (ascent m [] s).mults in
+-- the ascent over a box, with cuts
+abbrev pub ascent_of : ModelParts → List Row → Sides → Ascent
+ascent_of m cuts s =
+    let ys = (ascent m cuts s).mults in
     record {
       mults = ys;
-      bound = lagrangian_bound m [] s ys;
-      point = bound_point m [] s ys;
-      work = ascent_work m [] s;
+      bound = lagrangian_bound m cuts s ys;
+      point = bound_point m cuts s ys;
+      work = ascent_work m cuts s;
     }
 
 -- a chunk after its passes, with the work of its ascent counted where there was one
@@ -131,17 +132,18 @@ abbrev pub progress_of : Propagation → ℕ → Progress
 progress_of p work = record { bounds = p.sides; steps = p.steps; work = 1 + p.run.work + work }
 
 -- after the passes: a box that they closed has no ascent
-abbrev pub after_passes : ModelParts → Task → Worker → Propagation → Ended → TaskChunk
-after_passes m task worker p ended.Open =
-    on_point m task worker (progress_of p (ascent_of m p.sides).work) (ascent_of m p.sides)
-    (is_found m task.cutoff (ascent_of m p.sides))
-after_passes m task worker p (ended.Conflict row) =
+abbrev pub after_passes : ModelParts → List Row → Task → Worker → Propagation → Ended → TaskChunk
+after_passes m cuts task worker p ended.Open =
+    on_point m task worker (progress_of p (ascent_of m cuts p.sides).work)
+    (ascent_of m cuts p.sides)
+    (is_found m task.cutoff (ascent_of m cuts p.sides))
+after_passes m cuts task worker p (ended.Conflict row) =
     closing_chunk task.node worker.splits [] (progress_of p 0) (Conflict row)
-after_passes m task worker p (ended.Empty col) =
+after_passes m cuts task worker p (ended.Empty col) =
     closing_chunk task.node worker.splits [] (progress_of p 0) (Empty col)
 
--- one chunk of a task, on its node
-abbrev pub node_chunk : ModelParts → Worker → Task → TaskChunk
-node_chunk m worker task =
-    let p = propagation_of m.rows [] task.bounds in
-    after_passes m task worker p p.run.outcome
+-- one chunk of a task, on its node, over the model's rows and cuts
+abbrev pub node_chunk : ModelParts → List Row → Worker → Task → TaskChunk
+node_chunk m cuts worker task =
+    let p = propagation_of m.rows cuts task.bounds in
+    after_passes m cuts task worker p p.run.outcome

@@ -60,7 +60,7 @@ fn pool_of(alloc: Global, model: &Model, entries: &[KeyedEntry]) -> Result<Pool,
     };
     let mut pool = Pool::new(alloc, model, settings)?;
     for item in entries {
-        pool.absorb(model, &item.entry)?;
+        pool.absorb(alloc, model, &item.entry)?;
     }
     Ok(pool)
 }

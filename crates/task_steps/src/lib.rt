@@ -9,6 +9,7 @@
 mod answer;
 mod close_or_split;
 mod column;
+mod copies;
 mod keep;
 mod laws;
 mod local;

@@ -1,10 +1,12 @@
-use ip_core::Bounds;
+use ip_core::{Bounds, List, Row};
 
-/// What a slot keeps: its number, how often it has split a node, and its task, none between tasks.
+/// What a slot keeps: its number, how often it has split a node, the cuts that its task works with,
+/// and the task, none between tasks. The cuts are those of the view at the task's start.
 #[derive(Debug, Drop)]
 pub struct Local {
     pub slot: u32,
     pub splits: u64,
+    pub cuts: List<Row>,
     pub task: Option<Task>,
 }
 

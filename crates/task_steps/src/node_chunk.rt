@@ -1,6 +1,6 @@
 ghost use Rattle.std.specs.Prelude.{◌≡◌, ◌≤◌, ◌<◌, ◌^◌, ◌+◌, ◌≤ℤ◌, pos, neg_ℤ, length, IfOk, IsTrue};
 ghost use Rattle.ip_core.specs.Truth.{IsFeasible};
-ghost use Rattle.task_steps.specs.Fits.{IsSmall, IsTask, IsWorker};
+ghost use Rattle.task_steps.specs.Fits.{AreFewDerived, IsSmall, IsTask, IsWorker};
 ghost use Rattle.task_steps.specs.Points.{is_feasible_at};
 ghost use Rattle.task_steps.specs.Tasks.{is_found as is_found_of, node_chunk as node_chunk_of, on_point as on_point_of};
 
@@ -8,12 +8,12 @@ use crate::close_or_split::{after_point, closing_chunk};
 use crate::local::Task;
 use crate::task_chunk::{Progress, TaskChunk, Worker};
 use dual_ascent::{Ascent, ascend};
-use ip_core::{Closing, List, Model, OutOfMemory, Point, is_feasible, value};
+use ip_core::{Closing, List, Model, OutOfMemory, Point, Row, is_feasible, value};
 use row_propagate::{Outcome as Ended, propagate};
 use std::alloc::Global;
 use work_stamp::{Entry, Pulse};
 
-/// One chunk of a task, on its node: passes over the rows, then an ascent over the box that they
+/// One chunk of a task, on its node: passes over the rows and the cuts, then an ascent over the box that they
 /// leave. The node is closed where the passes close its box, or the bound is at least the task's
 /// cutoff; the reason is kept. Else it is split. The chunk counts 1, the passes and the ascent, and
 /// the pulse hears of no more.
@@ -21,27 +21,29 @@ use work_stamp::{Entry, Pulse};
 pub fn node_chunk<P: Pulse>(
     alloc: Global,
     model: &Model,
+    cuts: &[Row],
     worker: Worker,
     task: &Task,
     pulse: &mut P,
 ) -> Result<TaskChunk, OutOfMemory>
+    requires cuts { AreFewDerived model.now cuts.now }
     requires task { IsTask model.now task.now }
     requires worker { IsWorker worker }
     requires ready { P.IsReady pulse.old }
-    requires allowed { (node_chunk_of model.now worker task.now).work ≤ P.allowance pulse.old }
-    ensures value { IfOk result (λ chunk. chunk ≡ node_chunk_of model.now worker task.now) }
+    requires allowed { (node_chunk_of model.now cuts.now worker task.now).work ≤ P.allowance pulse.old }
+    ensures value { IfOk result (λ chunk. chunk ≡ node_chunk_of model.now cuts.now worker task.now) }
     ensures ready { P.IsReady pulse.new }
     ensures rest { P.rest pulse.new ≡ P.rest pulse.old }
     ensures spent { P.allowance pulse.old
-        ≤ P.allowance pulse.new + (node_chunk_of model.now worker task.now).work }
+        ≤ P.allowance pulse.new + (node_chunk_of model.now cuts.now worker task.now).work }
 {
     let _limits = model.parts();
     let mut bounds = task.bounds.copy(alloc)?;
     let mut steps = List::new(alloc);
-    let run = propagate(alloc, model, &[], &mut bounds, &mut steps)?;
+    let run = propagate(alloc, model, cuts, &mut bounds, &mut steps)?;
     let why = match run.outcome {
         Ended::Open => {
-            let ascent = ascend(alloc, model, &[], &bounds, pulse)?;
+            let ascent = ascend(alloc, model, cuts, &bounds, pulse)?;
             let work = 1 + run.work + ascent.work;
             let progress = Progress {
                 bounds,

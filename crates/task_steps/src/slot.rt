@@ -2,6 +2,7 @@ ghost use Rattle.std.specs.Prelude.{◌≡◌, ◌≤◌, ◌<◌, ◌+◌, is_n
 ghost use Rattle.task_steps.specs.Fits.{FitsLocal};
 ghost use Rattle.task_steps.specs.Rules.{begin_of, chunk_of, fresh_local as fresh_local_of};
 
+use crate::copies::copy_rows;
 use crate::local::{Local, Task};
 use crate::node_chunk::node_chunk;
 use crate::task_chunk::Worker;
@@ -11,12 +12,13 @@ use std::alloc::Global;
 use work_stamp::{Begin, Chunk, Entry, Pulse};
 
 /// A slot that has split nothing, between tasks.
-pub fn fresh_local(slot: u32) -> Local
+pub fn fresh_local(alloc: Global, slot: u32) -> Local
     ensures { result ≡ fresh_local_of slot }
 {
     Local {
         slot,
         splits: 0,
+        cuts: List::new(alloc),
         task: None,
     }
 }
@@ -28,7 +30,8 @@ pub fn is_at_start(local: &Local) -> bool
     local.task.is_none()
 }
 
-/// What a slot between tasks does: it takes the best open node with the view's cutoff, waits where
+/// What a slot between tasks does: it takes the best open node with the view's cutoff and cuts,
+/// waits where
 /// nothing is open, and is over where a Halt stands, or nothing is open or held.
 pub fn begin(
     alloc: Global,
@@ -46,6 +49,7 @@ pub fn begin(
     };
     let mut entries = List::new(alloc);
     entries.push(Entry::Start { node })?;
+    local.cuts = copy_rows(alloc, pool.cuts())?;
     local.task = Some(Task {
         node,
         bounds: pool.bounds_of(alloc, model, node)?,
@@ -86,7 +90,7 @@ pub fn chunk<P: Pulse>(
         slot: local.slot,
         splits: local.splits,
     };
-    let chunk = node_chunk(alloc, model, worker, task, pulse)?;
+    let chunk = node_chunk(alloc, model, local.cuts.as_slice(), worker, task, pulse)?;
     local.splits = chunk.splits;
     local.task = chunk.task;
     Ok(Chunk {

@@ -33,18 +33,18 @@ impl Tasker for Search {
         Pool::new(alloc, self.model(), self.settings())
     }
 
-    fn fresh_local(&self, _alloc: Global, slot: u32) -> Result<Local, OutOfMemory> {
-        Ok(fresh_local(slot))
+    fn fresh_local(&self, alloc: Global, slot: u32) -> Result<Local, OutOfMemory> {
+        Ok(fresh_local(alloc, slot))
     }
 
     fn absorb(
         &self,
-        _alloc: Global,
+        alloc: Global,
         view: &mut Pool,
         _key: Key,
         entry: &Entry,
     ) -> Result<(), OutOfMemory> {
-        view.absorb(self.model(), entry)
+        view.absorb(alloc, self.model(), entry)
     }
 
     fn at_start(&self, local: &Local) -> bool {

@@ -88,19 +88,19 @@ abbrev branch : ℕ → ℕ → ℤ → ℕ → ℤ → Branch
 branch node col at first bound =
     record { node = node; col = col; at = at; first = first; bound = bound }
 
-split_branches : (v : View) (node col : ℕ) (at : ℤ) (first keep : ℕ) (bound : ℤ)
-    → (after_entry v (Split node col at first keep bound)).branches ≡ v.branches
+split_branches : (m : ModelParts) (v : View) (node col : ℕ) (at : ℤ) (first keep : ℕ) (bound : ℤ)
+    → (after_entry m v (Split node col at first keep bound)).branches ≡ v.branches
     ++ branch node col at first bound ∷ []
-split_branches v node col at first keep bound =
+split_branches m v node col at first keep bound =
     children_branches (with_branch (without_held v node) (branch node col at first bound))
     (open_node first bound) (open_node (first + 1) bound) keep
 
-split_box : (v : View) (root : Sides) (node col : ℕ) (at : ℤ) (first keep : ℕ) (bound : ℤ)
+split_box : (m : ModelParts) (v : View) (root : Sides) (node col : ℕ) (at : ℤ) (first keep : ℕ) (bound : ℤ)
     (name : ℕ)
-    → box_of root (after_entry v (Split node col at first keep bound)).branches name
+    → box_of root (after_entry m v (Split node col at first keep bound)).branches name
     ≡ boxes_with (λ other. box_of root v.branches other) (branch node col at first bound) name
-split_box v root node col at first keep bound name =
-    ap (λ (bs : List Branch). box_of root bs name) (split_branches v node col at first keep bound)
+split_box m v root node col at first keep bound name =
+    ap (λ (bs : List Branch). box_of root bs name) (split_branches m v node col at first keep bound)
     ∙ boxes_last (λ other. root) v.branches (branch node col at first bound) name
 
 first_change : (b : Branch) (name : ℕ) → nat_eq b.first name ≡ true
@@ -115,20 +115,20 @@ pub no_change : (b : Branch) (name : ℕ) → nat_eq b.first name ≡ false
     → nat_eq (b.first + 1) name ≡ false → change_for b name ≡ None
 no_change b name h i = rw (h, i) refl
 
-low_box : (v : View) (root : Sides) (node col : ℕ) (at : ℤ) (first keep : ℕ) (bound : ℤ)
-    → box_of root (after_entry v (Split node col at first keep bound)).branches first
+low_box : (m : ModelParts) (v : View) (root : Sides) (node col : ℕ) (at : ℤ) (first keep : ℕ) (bound : ℤ)
+    → box_of root (after_entry m v (Split node col at first keep bound)).branches first
     ≡ low_child (box_of root v.branches node) col at
-low_box v root node col at first keep bound =
-    split_box v root node col at first keep bound first
+low_box m v root node col at first keep bound =
+    split_box m v root node col at first keep bound first
     ∙ ap (λ (c : Option BoundChange).
     box_by c (box_of root v.branches first) (box_of root v.branches node))
     (first_change (branch node col at first bound) first (test_itself first))
 
-high_box : (v : View) (root : Sides) (node col : ℕ) (at : ℤ) (first keep : ℕ) (bound : ℤ)
-    → box_of root (after_entry v (Split node col at first keep bound)).branches (first + 1)
+high_box : (m : ModelParts) (v : View) (root : Sides) (node col : ℕ) (at : ℤ) (first keep : ℕ) (bound : ℤ)
+    → box_of root (after_entry m v (Split node col at first keep bound)).branches (first + 1)
     ≡ high_child (box_of root v.branches node) col at
-high_box v root node col at first keep bound =
-    split_box v root node col at first keep bound (first + 1)
+high_box m v root node col at first keep bound =
+    split_box m v root node col at first keep bound (first + 1)
     ∙ ap (λ (c : Option BoundChange).
     box_by c (box_of root v.branches (first + 1)) (box_of root v.branches node))
     (second_change (branch node col at first bound) (first + 1) (differ_from_next first)
@@ -147,17 +147,17 @@ new_differs v a b new known = new_cases v a b (nat_eq a b) refl new known
 
 split_stays : (m : ModelParts) (v : View) (root : Sides) (node col : ℕ) (at : ℤ) (first keep : ℕ)
     (bound : ℤ) (name : ℕ) → MaySplit m v node col at first keep → is_known v name ≡ true
-    → box_of root (after_entry v (Split node col at first keep bound)).branches name
+    → box_of root (after_entry m v (Split node col at first keep bound)).branches name
     ≡ box_of root v.branches name
 split_stays m v root node col at first keep bound name may known =
-    split_box v root node col at first keep bound name
+    split_box m v root node col at first keep bound name
     ∙ ap (λ (c : Option BoundChange).
     box_by c (box_of root v.branches name) (box_of root v.branches node))
     (no_change (branch node col at first bound) name (new_differs v first name may.first_new known)
     (new_differs v (first + 1) name may.second_new known))
 
 box_stays : (m : ModelParts) (v : View) (e : Entry) (root : Sides) (name : ℕ) → MayJoin m v e
-    → is_known v name ≡ true → box_of root (after_entry v e).branches name
+    → is_known v name ≡ true → box_of root (after_entry m v e).branches name
     ≡ box_of root v.branches name
 box_stays m v (Start node) root name may known = refl
 box_stays m v CutStart root name may known = refl
@@ -278,7 +278,7 @@ split_known v node col at first keep bound known =
     (test_itself (first + 1))))
 
 entry_known : (m : ModelParts) (v : View) (e : Entry) → AreKnown v → MayJoin m v e
-    → AreKnown (after_entry v e)
+    → AreKnown (after_entry m v e)
 entry_known m v (Start node) known may = record {
   opened = All-without_node (λ other. is_known v other.name ≡ true) node v.open_nodes known.opened;
   held = All-end (λ name. is_known v name ≡ true) v.held_nodes node known.held
@@ -290,7 +290,7 @@ entry_known m v Done known may = same_lists v _ refl refl refl known
 entry_known m v (Found value point) known may = same_lists v _ refl refl refl known
 entry_known m v (Cut derivation) known may = same_lists v _ refl refl refl known
 entry_known m v (Split node col at first keep bound) known may =
-    same_lists _ (after_entry v (Split node col at first keep bound)) refl refl refl
+    same_lists _ (after_entry m v (Split node col at first keep bound)) refl refl refl
     (split_known v node col at first keep bound known)
 entry_known m v (Closed node) known may =
     same_lists (without_held v node) _ refl refl refl (gone_known v node known)

@@ -11,10 +11,10 @@ use Rattle.node_pool.specs.declared.node.OpenNode.{OpenNode}
 use Rattle.node_pool.specs.declared.settings.SearchSettings.{SearchSettings}
 
 -- the view of a history with one entry more
-pub view_next : (v : View) (es : List KeyedEntry) (e : KeyedEntry)
-    → view_after v (es ++ e ∷ []) ≡ after_entry (view_after v es) e.entry
-view_next v [] e = refl
-view_next v (x ∷ xs) e = view_next (after_entry v x.entry) xs e
+pub view_next : (m : ModelParts) (v : View) (es : List KeyedEntry) (e : KeyedEntry)
+    → view_after m v (es ++ e ∷ []) ≡ after_entry m (view_after m v es) e.entry
+view_next m v [] e = refl
+view_next m v (x ∷ xs) e = view_next m (after_entry m v x.entry) xs e
 
 children_settings : (v : View) (low high : OpenNode) (keep : ℕ)
     → (with_children v low high keep).settings ≡ v.settings
@@ -22,31 +22,31 @@ children_settings v low high zero = refl
 children_settings v low high (suc zero) = refl
 children_settings v low high (suc (suc more)) = refl
 
-entry_settings : (v : View) (e : Entry) → (after_entry v e).settings ≡ v.settings
-entry_settings v (Start node) = refl
-entry_settings v CutStart = refl
-entry_settings v (HeurStart node) = refl
-entry_settings v Done = refl
-entry_settings v (Found value point) = refl
-entry_settings v (Cut derivation) = refl
-entry_settings v (Split node col at first keep bound) =
+entry_settings : (m : ModelParts) (v : View) (e : Entry) → (after_entry m v e).settings ≡ v.settings
+entry_settings m v (Start node) = refl
+entry_settings m v CutStart = refl
+entry_settings m v (HeurStart node) = refl
+entry_settings m v Done = refl
+entry_settings m v (Found value point) = refl
+entry_settings m v (Cut derivation) = refl
+entry_settings m v (Split node col at first keep bound) =
     children_settings (with_branch (without_held v node)
     (record { node = node; col = col; at = at; first = first; bound = bound }))
     (open_node first bound) (open_node (first + 1) bound) keep
-entry_settings v (Closed node) = refl
-entry_settings v Halt = refl
+entry_settings m v (Closed node) = refl
+entry_settings m v Halt = refl
 
 -- the settings stay
-pub settings_stay : (v : View) (es : List KeyedEntry) → (view_after v es).settings ≡ v.settings
-settings_stay v [] = refl
-settings_stay v (e ∷ es) = settings_stay (after_entry v e.entry) es ∙ entry_settings v e.entry
+pub settings_stay : (m : ModelParts) (v : View) (es : List KeyedEntry) → (view_after m v es).settings ≡ v.settings
+settings_stay m v [] = refl
+settings_stay m v (e ∷ es) = settings_stay m (after_entry m v e.entry) es ∙ entry_settings m v e.entry
 
 -- an entry that may follow may join the view of a history
 pub can_join : (m : ModelParts) (settings : SearchSettings) (history : List KeyedEntry) (v : View)
     (e : Entry) → v ≡ view_of m settings history → MayFollow m v e → CanJoin m v e
 can_join m settings history v e is follows =
     let same : v.settings ≡ settings = ap (λ (w : View). w.settings) is
-    ∙ settings_stay (fresh_view m settings) history in
+    ∙ settings_stay m (fresh_view m settings) history in
     record {
       history = history;
       is = subst (λ (s : SearchSettings). v ≡ view_of m s history) (sym same) is;
@@ -63,16 +63,16 @@ joins_at m settings history v e is follows =
 next_count : (a b c : ℕ) → a ≡ b + 1 + c → a ≡ b + suc c
 next_count a b c h = omega (arith, h)
 
-entries_after : (v : View) (es : List KeyedEntry)
-    → (view_after v es).entries ≡ v.entries + length es
-entries_after v [] = omega arith
-entries_after v (e ∷ es) =
-    next_count (view_after (after_entry v e.entry) es).entries v.entries (length es)
-    (entries_after (after_entry v e.entry) es)
+entries_after : (m : ModelParts) (v : View) (es : List KeyedEntry)
+    → (view_after m v es).entries ≡ v.entries + length es
+entries_after m v [] = omega arith
+entries_after m v (e ∷ es) =
+    next_count (view_after m (after_entry m v e.entry) es).entries v.entries (length es)
+    (entries_after m (after_entry m v e.entry) es)
 
 from_none : (a b : ℕ) → a ≡ 0 + b → a ≡ b
 from_none a b h = omega (arith, h)
 
 pub entries_are_counted : EntriesAreCounted
 entries_are_counted m settings history =
-    from_none _ (length history) (entries_after (fresh_view m settings) history)
+    from_none _ (length history) (entries_after m (fresh_view m settings) history)

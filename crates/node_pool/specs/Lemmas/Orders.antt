@@ -161,32 +161,32 @@ children_ordered v low high (suc zero) ordered = insert_ordered low v.open_nodes
 children_ordered v low high (suc (suc more)) ordered =
     insert_ordered high (insert_open low v.open_nodes) (insert_ordered low v.open_nodes ordered)
 
-entry_ordered : (v : View) (e : Entry) → IsOrdered v.open_nodes
-    → IsOrdered (after_entry v e).open_nodes
-entry_ordered v (Start node) ordered = without_ordered node v.open_nodes ordered
-entry_ordered v CutStart ordered = ordered
-entry_ordered v (HeurStart node) ordered = ordered
-entry_ordered v Done ordered = ordered
-entry_ordered v (Found value point) ordered = ordered
-entry_ordered v (Cut derivation) ordered = ordered
-entry_ordered v (Split node col at first keep bound) ordered =
+entry_ordered : (m : ModelParts) (v : View) (e : Entry) → IsOrdered v.open_nodes
+    → IsOrdered (after_entry m v e).open_nodes
+entry_ordered m v (Start node) ordered = without_ordered node v.open_nodes ordered
+entry_ordered m v CutStart ordered = ordered
+entry_ordered m v (HeurStart node) ordered = ordered
+entry_ordered m v Done ordered = ordered
+entry_ordered m v (Found value point) ordered = ordered
+entry_ordered m v (Cut derivation) ordered = ordered
+entry_ordered m v (Split node col at first keep bound) ordered =
     children_ordered (with_branch (without_held v node)
     (record { node = node; col = col; at = at; first = first; bound = bound }))
     (open_node first bound) (open_node (first + 1) bound) keep ordered
-entry_ordered v (Closed node) ordered = ordered
-entry_ordered v Halt ordered = ordered
+entry_ordered m v (Closed node) ordered = ordered
+entry_ordered m v Halt ordered = ordered
 
-all_ordered : (v : View) (es : List KeyedEntry) → IsOrdered v.open_nodes
-    → IsOrdered (view_after v es).open_nodes
-all_ordered v [] ordered = ordered
-all_ordered v (e ∷ es) ordered =
-    all_ordered (after_entry v e.entry) es (entry_ordered v e.entry ordered)
+all_ordered : (m : ModelParts) (v : View) (es : List KeyedEntry) → IsOrdered v.open_nodes
+    → IsOrdered (view_after m v es).open_nodes
+all_ordered m v [] ordered = ordered
+all_ordered m v (e ∷ es) ordered =
+    all_ordered m (after_entry m v e.entry) es (entry_ordered m v e.entry ordered)
 
 -- at every history they do
 pub history_ordered : (m : ModelParts) (settings : SearchSettings) (history : List KeyedEntry)
     → IsOrdered (view_of m settings history).open_nodes
 history_ordered m settings history =
-    all_ordered (fresh_view m settings) history (All-nil (IsNoLater (open_node 0 _)), tt)
+    all_ordered m (fresh_view m settings) history (All-nil (IsNoLater (open_node 0 _)), tt)
 
 -- the first node of an ordered list comes no later than any
 first_best : (nodes : List OpenNode) (name : ℕ) → IsOrdered nodes → first_name nodes ≡ Some name

@@ -16,6 +16,7 @@ use Rattle.work_stamp.specs.declared.stamped.KeyedEntry.{KeyedEntry}
 use Rattle.work_stamp.specs.declared.task.Begin.TheVariants.{Take}
 use Rattle.node_pool.specs.Branchings.{box_of}
 use Rattle.node_pool.specs.Follows.{MayFollow, MayJoin}
+use Rattle.node_pool.specs.Lemmas.Cuts.{same_cuts}
 use Rattle.node_pool.specs.Lemmas.Joining.{entries_are_counted}
 use Rattle.node_pool.specs.Views.{View, after_entry, fresh_view, is_known, view_of}
 use Rattle.node_pool.specs.declared.settings.SearchSettings.{SearchSettings}
@@ -23,7 +24,7 @@ use Rattle.task_steps.specs.Agrees.{Agrees, MayFollowIn, Stands}
 use Rattle.task_steps.specs.Answers.{best_after, best_found}
 use Rattle.task_steps.specs.Claims.{Claim, IsAt, IsAtTask, IsDue, IsReady, Meets, claim_after, claims_with}
 use Rattle.task_steps.specs.Fits.{FitsLocal, FitsTask}
-use Rattle.task_steps.specs.Rules.{begin_of, chunk_of, rules, task_on}
+use Rattle.task_steps.specs.Rules.{begin_of, chunk_of, local_on, rules}
 use Rattle.task_steps.specs.Tasks.{child_name, next_ordinal}
 use Rattle.task_steps.specs.declared.answer.Best.{Best}
 use Rattle.task_steps.specs.declared.local.Local.{Local}
@@ -80,7 +81,7 @@ due_may_follow m v best slot claims e short meets due = record {
 due_joins : (m : ModelParts) (v : View) (best : Option Best) (slot : ℕ) (claims : ℕ → Claim)
     (e : Entry) → IsModel m → v.entries < 2 ^ 31 → Meets m v best claims
     → IsDue m slot (claims slot) e → MayFollow m v e
-    → Meets m (after_entry v e) (best_after best e)
+    → Meets m (after_entry m v e) (best_after best e)
     (claims_with claims slot (claim_after (claims slot) e))
 due_joins m v best slot claims (Start node) valid short meets due follows = absurd due
 due_joins m v best slot claims CutStart valid short meets due follows = absurd due
@@ -96,6 +97,11 @@ due_joins m v best slot claims (Closed node) valid short meets due follows =
     joined_closed m v best slot claims valid meets node due follows
 due_joins m v best slot claims Halt valid short meets due follows = absurd due
 
+-- the claim of a slot that holds nothing
+abbrev fresh_claim : ModelParts → SearchSettings → Claim
+fresh_claim m settings =
+    record { hold = None; cutoff = (fresh_view m settings).cutoff; splits = 0; cuts = [] }
+
 or_none : (b : Bool) → b ≡ false → (b || false) ≡ false
 or_none b is = rw is refl
 
@@ -105,12 +111,12 @@ module _ (m : ModelParts) (settings : SearchSettings) where
   MeetsAll history claims = Meets m (view_of m settings history) (best_found history) claims
 
   in_view : (history : List KeyedEntry) (k : Key) (e : Entry) (claims : ℕ → Claim)
-      → Meets m (after_entry (view_of m settings history) e) (best_after (best_found history) e)
+      → Meets m (after_entry m (view_of m settings history) e) (best_after (best_found history) e)
       claims → MeetsAll (history ++ keyed_entry k e ∷ []) claims
   in_view history k e claims meets =
       subst (λ (v : View). Meets m v (best_found (history ++ keyed_entry k e ∷ [])) claims)
       (sym (seen_next m settings history k e))
-      (subst (λ (b : Option Best). Meets m (after_entry (view_of m settings history) e) b claims)
+      (subst (λ (b : Option Best). Meets m (after_entry m (view_of m settings history) e) b claims)
       (sym (best_next history k e)) meets)
 
   few_entries : (history : List KeyedEntry) → length history < 2 ^ 31
@@ -196,11 +202,12 @@ module _ (m : ModelParts) (settings : SearchSettings) where
       in_view history k e (claims_with claims slot d)
       (joined_start m v (best_found history) slot claims valid agrees.meets node
       (start_follows history l es short does)) in
-      let here : IsAt m slot d (record l { task = Some (task_on m v node) }) = record {
+      let here : IsAt m slot d (local_on m v l node) = record {
         fits = task_fits m v l node agrees.meets.fits at.fits
             (pick_boxed m v node agrees.meets.fits taken.picked);
         own = at.own;
         splits = at.splits;
+        cuts = refl;
         task = record {
           node = record { name = node; bounds = box_of m.root v.branches node };
           is = refl;
@@ -210,10 +217,10 @@ module _ (m : ModelParts) (settings : SearchSettings) where
         };
       } in
       let after : Agrees m settings (history ++ under k (Start node ∷ []))
-      (set slots slot (standing (record l { task = Some (task_on m v node) }) [])) = record {
+      (set slots slot (standing (local_on m v l node) [])) = record {
         claims = claims_with claims slot d;
         meets = meets;
-        ready = stands_with m claims slots slot d (record l { task = Some (task_on m v node) }) []
+        ready = stands_with m claims slots slot d (local_on m v l node) []
             agrees.ready here (place_within slots slot _ there);
       } in
       subst (λ (xs : List Entry). Agrees m settings (history ++ under k xs)
@@ -223,13 +230,13 @@ module _ (m : ModelParts) (settings : SearchSettings) where
 
   -- a chunk of a task whose slot stands at its claim
   chunk_ready : (slot : ℕ) (c : Claim) (l : Local) (o : Option Task) → IsModel m → IsPaired m.root
-      → FitsLocal m l → FitsTask m o → l.slot ≡ slot → l.splits ≡ c.splits → IsAtTask c o
+      → FitsLocal m l → FitsTask m o → l.slot ≡ slot → l.splits ≡ c.splits → l.cuts ≡ c.cuts → IsAtTask c o
       → is_none o ≡ false
       → IsReady m slot c (chunk_of m l o).gives.entries (chunk_of m l o).local
-  chunk_ready slot c l None valid paired fits task_fits own same at has = absurd (true≢false has)
-  chunk_ready slot c l (Some task) valid paired fits task_fits own same at has =
+  chunk_ready slot c l None valid paired fits task_fits own same seen at has = absurd (true≢false has)
+  chunk_ready slot c l (Some task) valid paired fits task_fits own same seen at has =
       (chunk_good m l task valid paired fits task_fits).ready slot c own same
-      (record { node = at.node; is = at.is; named = at.named; boxed = at.boxed }) at.cutoff
+      (record { node = at.node; is = at.is; named = at.named; boxed = at.boxed }) seen at.cutoff
 
   pub chunk_agrees : (history : List KeyedEntry) (slots : List (Option (Standing Local)))
       (slot : ℕ) (l : Local) → IsModel m → IsPaired m.root → Agrees m settings history slots
@@ -247,7 +254,7 @@ module _ (m : ModelParts) (settings : SearchSettings) where
             (standing (chunk_of m l l.task).local (chunk_of m l l.task).gives.entries)
             (λ i apart. refl) agrees.ready
             (chunk_ready slot (claims slot) l l.task valid paired at.fits at.fits.task at.own
-            at.splits at.task has) (place_within slots slot _ there);
+            at.splits at.cuts at.task has) (place_within slots slot _ there);
       }
 
   pub halt_follows : (history : List KeyedEntry) → length history < 2 ^ 31
@@ -282,7 +289,7 @@ module _ (m : ModelParts) (settings : SearchSettings) where
   pub agrees_at_first : (slots : ℕ) → IsModel m → IsPaired m.root → slots ≤ 64
       → Agrees m settings [] (fresh_standings (rules m settings) 0 slots)
   agrees_at_first slots valid paired few = record {
-    claims = λ slot. record { hold = None; cutoff = (fresh_view m settings).cutoff; splits = 0 };
+    claims = λ slot. fresh_claim m settings;
     meets = record {
       fits = fresh_view_fits m settings valid paired;
       sound = record { steps = NoSteps; cutoff = refl; found = tt };
@@ -291,11 +298,12 @@ module _ (m : ModelParts) (settings : SearchSettings) where
         held = tt;
         cutoff = omega (arith, ints);
         few = omega arith;
+        cuts = same_cuts [];
         first_new = λ k some most. not_root (child_name slot k) (omega arith);
         second_new = λ k some most. not_root (child_name slot k + 1) (omega arith);
       };
       apart = λ i j a b left right same. absurd (none-some a left);
     };
     ready = λ j. fresh_stand m settings slots j
-        (record { hold = None; cutoff = (fresh_view m settings).cutoff; splits = 0 }) few refl refl;
+        (fresh_claim m settings) few refl refl refl;
   }

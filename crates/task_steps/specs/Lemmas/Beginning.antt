@@ -16,7 +16,7 @@ use Rattle.node_pool.specs.declared.node.OpenNode.{OpenNode}
 use Rattle.node_pool.specs.declared.pick.Pick.{Pick}
 use Rattle.node_pool.specs.declared.pick.Pick.TheVariants.{CutLoop, Heuristic, Node, Nothing, Over}
 use Rattle.task_steps.specs.Fits.{FitsLocal, FitsView, IsBoxed}
-use Rattle.task_steps.specs.Rules.{begin_of, begin_by, task_on}
+use Rattle.task_steps.specs.Rules.{begin_by, begin_of, local_on, task_on}
 use Rattle.task_steps.specs.declared.local.Local.{Local}
 use Rattle.task_steps.specs.Lemmas.NameCounts.{ne_from_test}
 
@@ -76,10 +76,11 @@ pick_boxed m v name fits same =
 
 -- the local of a slot that takes a node fits
 pub task_fits : (m : ModelParts) (v : View) (l : Local) (node : ℕ) → FitsView m v → FitsLocal m l
-    → IsBoxed m v node → FitsLocal m (record l { task = Some (task_on m v node) })
+    → IsBoxed m v node → FitsLocal m (local_on m v l node)
 task_fits m v l node view fits boxed = record {
   slot = fits.slot;
   few = fits.few;
+  cuts = view.cuts;
   task = record {
     word = boxed.word;
     within = boxed.within;
@@ -110,7 +111,7 @@ pub record IsTaken (m : ModelParts) (v : View) (l : Local) (es : List Entry)
   pub node : ℕ
   pub picked : pick_of v ≡ Node node
   pub entries : es ≡ Start node ∷ []
-  pub local : after.local ≡ record l { task = Some (task_on m v node) }
+  pub local : after.local ≡ local_on m v l node
 
 end_takes_none : (es : List Entry) → End ≡ Take es → ⊥
 end_takes_none es same = cc

@@ -11,10 +11,11 @@ use Rattle.task_steps.specs.declared.local.Task.{Task}
 use Rattle.task_steps.specs.Lemmas.ChunkWork.{chunk_counts}
 use Rattle.task_steps.specs.Lemmas.TaskChunks.{worker_of}
 use Rattle.task_steps.specs.Lemmas.Working.{chunk_good}
+use Rattle.task_steps.specs.Lemmas.TaskCuts.{none_derived}
 
 -- a fresh local fits
 pub fresh_local_fits : (m : ModelParts) (slot : ℕ) → slot < 64 → FitsLocal m (fresh_local slot)
-fresh_local_fits m slot few = record { slot = few; few = omega arith; task = tt }
+fresh_local_fits m slot few = record { slot = few; few = omega arith; cuts = none_derived m; task = tt }
 
 -- what a chunk of a begun task leaves and gives
 pub record IsLawfulChunk (m : ModelParts) (l : Local) (o : Option Task) : Type 0 where
@@ -28,5 +29,5 @@ pub chunk_lawful : (m : ModelParts) (l : Local) (o : Option Task) → IsModel m 
 chunk_lawful m l None valid paired fits task_fits start_is = absurd (cc)
 chunk_lawful m l (Some task) valid paired fits task_fits start_is =
     let good = chunk_good m l task valid paired fits task_fits in
-    let counts = chunk_counts m (worker_of l) task valid in
+    let counts = chunk_counts m l.cuts (worker_of l) task valid fits.cuts in
     record { fits = good.fits; words = good.words; some_work = counts.0; little_work = counts.1 }

@@ -9,7 +9,9 @@ use Rattle.work_stamp.specs.declared.entry.Entry.{Entry}
 use Rattle.work_stamp.specs.declared.entry.Entry.TheVariants.{Start, CutStart, HeurStart, Done, Found, Cut, Split, Closed, Halt}
 use Rattle.node_pool.specs.Branchings.{Branch, box_of, is_child}
 use Rattle.node_pool.specs.Follows.{MayFollow, MayJoin, MaySplit}
+use Rattle.node_pool.specs.Laws.{HasCutsOf}
 use Rattle.node_pool.specs.Lemmas.Boxes.{boxes_are_parts}
+use Rattle.node_pool.specs.Lemmas.Cuts.{cuts_are_derived}
 use Rattle.node_pool.specs.Nodes.{insert_open}
 use Rattle.node_pool.specs.Views.{View, after_entry, is_known, open_node, with_branch, with_children, without_held}
 use Rattle.node_pool.specs.declared.node.OpenNode.{OpenNode}
@@ -53,8 +55,8 @@ gone (Split node col at first keep bound) name = one_if (nat_eq node name)
 gone (Closed node) name = one_if (nat_eq node name)
 gone Halt name = 0
 
--- The view `w` after one more entry. Known names stay known, and their boxes stay; the cutoff only
--- falls; the nodes that are left, and those that are held, are the old ones but for those that the
+-- The view `w` after one more entry. Known names stay known, and their boxes stay; cuts stay; the
+-- cutoff only falls; the nodes that are left, and those that are held, are the old ones but for those that the
 -- entry is done with, and those that it makes.
 pub record IsNext (m : ModelParts) (v w : View) (e : Entry) : Type 0 where
   pub names : (name : ℕ) → is_known w name ≡ (is_known v name || makes e name)
@@ -65,6 +67,7 @@ pub record IsNext (m : ModelParts) (v w : View) (e : Entry) : Type 0 where
   pub left : (name : ℕ) → count_left w name + gone e name ≡ count_left v name + made e name
   pub held : (name : ℕ)
       → count_name name v.held_nodes ≤ count_name name w.held_nodes + gone e name
+  pub cuts : HasCutsOf v.cuts w.cuts
 
 -- names
 
@@ -101,27 +104,27 @@ last_known bs b name =
     (list_any-append (λ (c : Branch). is_child c name) bs (b ∷ []))
     ∙ three_tests (nat_eq 0 name) (list_any (λ (c : Branch). is_child c name) bs) (is_child b name)
 
-split_names : (v : View) (node col : ℕ) (at : ℤ) (first keep : ℕ) (bound : ℤ) (name : ℕ)
-    → is_known (after_entry v (Split node col at first keep bound)) name
+split_names : (m : ModelParts) (v : View) (node col : ℕ) (at : ℤ) (first keep : ℕ) (bound : ℤ) (name : ℕ)
+    → is_known (after_entry m v (Split node col at first keep bound)) name
     ≡ (is_known v name || (nat_eq first name || nat_eq (first + 1) name))
-split_names v node col at first keep bound name =
+split_names m v node col at first keep bound name =
     ap (λ (bs : List Branch). nat_eq 0 name || list_any (λ (c : Branch). is_child c name) bs)
     (children_branches (base_of v node col at first bound) (open_node first bound)
     (open_node (first + 1) bound) keep)
     ∙ last_known v.branches (branch node col at first bound) name
 
-names_after : (v : View) (e : Entry) (name : ℕ)
-    → is_known (after_entry v e) name ≡ (is_known v name || makes e name)
-names_after v (Start node) name = or_false (is_known v name)
-names_after v CutStart name = or_false (is_known v name)
-names_after v (HeurStart node) name = or_false (is_known v name)
-names_after v Done name = or_false (is_known v name)
-names_after v (Found value point) name = or_false (is_known v name)
-names_after v (Cut derivation) name = or_false (is_known v name)
-names_after v (Split node col at first keep bound) name =
-    split_names v node col at first keep bound name
-names_after v (Closed node) name = or_false (is_known v name)
-names_after v Halt name = or_false (is_known v name)
+names_after : (m : ModelParts) (v : View) (e : Entry) (name : ℕ)
+    → is_known (after_entry m v e) name ≡ (is_known v name || makes e name)
+names_after m v (Start node) name = or_false (is_known v name)
+names_after m v CutStart name = or_false (is_known v name)
+names_after m v (HeurStart node) name = or_false (is_known v name)
+names_after m v Done name = or_false (is_known v name)
+names_after m v (Found value point) name = or_false (is_known v name)
+names_after m v (Cut derivation) name = or_false (is_known v name)
+names_after m v (Split node col at first keep bound) name =
+    split_names m v node col at first keep bound name
+names_after m v (Closed node) name = or_false (is_known v name)
+names_after m v Halt name = or_false (is_known v name)
 
 -- the cutoff
 
@@ -132,9 +135,9 @@ children_cutoff v low high (suc zero) = refl
 children_cutoff v low high (suc (suc more)) = refl
 
 -- a split leaves the cutoff
-pub split_cutoff : (v : View) (node col : ℕ) (at : ℤ) (first keep : ℕ) (bound : ℤ)
-    → (after_entry v (Split node col at first keep bound)).cutoff ≡ v.cutoff
-split_cutoff v node col at first keep bound =
+pub split_cutoff : (m : ModelParts) (v : View) (node col : ℕ) (at : ℤ) (first keep : ℕ) (bound : ℤ)
+    → (after_entry m v (Split node col at first keep bound)).cutoff ≡ v.cutoff
+split_cutoff m v node col at first keep bound =
     children_cutoff (base_of v node col at first bound) (open_node first bound)
     (open_node (first + 1) bound) keep
 
@@ -144,17 +147,17 @@ not_above a b same = omega (arith, ints)
 least_falls : (a b : ℤ) → int_min a b ≤ℤ a
 least_falls a b = omega (arith, ints, clamps)
 
-cutoff_after : (v : View) (e : Entry) → (after_entry v e).cutoff ≤ℤ v.cutoff
-cutoff_after v (Start node) = not_above v.cutoff v.cutoff refl
-cutoff_after v CutStart = not_above v.cutoff v.cutoff refl
-cutoff_after v (HeurStart node) = not_above v.cutoff v.cutoff refl
-cutoff_after v Done = not_above v.cutoff v.cutoff refl
-cutoff_after v (Found value point) = least_falls v.cutoff value
-cutoff_after v (Cut derivation) = not_above v.cutoff v.cutoff refl
-cutoff_after v (Split node col at first keep bound) =
-    not_above _ v.cutoff (split_cutoff v node col at first keep bound)
-cutoff_after v (Closed node) = not_above v.cutoff v.cutoff refl
-cutoff_after v Halt = not_above v.cutoff v.cutoff refl
+cutoff_after : (m : ModelParts) (v : View) (e : Entry) → (after_entry m v e).cutoff ≤ℤ v.cutoff
+cutoff_after m v (Start node) = not_above v.cutoff v.cutoff refl
+cutoff_after m v CutStart = not_above v.cutoff v.cutoff refl
+cutoff_after m v (HeurStart node) = not_above v.cutoff v.cutoff refl
+cutoff_after m v Done = not_above v.cutoff v.cutoff refl
+cutoff_after m v (Found value point) = least_falls v.cutoff value
+cutoff_after m v (Cut derivation) = not_above v.cutoff v.cutoff refl
+cutoff_after m v (Split node col at first keep bound) =
+    not_above _ v.cutoff (split_cutoff m v node col at first keep bound)
+cutoff_after m v (Closed node) = not_above v.cutoff v.cutoff refl
+cutoff_after m v Halt = not_above v.cutoff v.cutoff refl
 
 -- nodes
 
@@ -176,7 +179,7 @@ children_left v low high (suc (suc more)) name =
 
 split_left : (m : ModelParts) (v : View) (node col : ℕ) (at : ℤ) (first keep : ℕ) (bound : ℤ)
     (name : ℕ) → MaySplit m v node col at first keep
-    → count_left (after_entry v (Split node col at first keep bound)) name
+    → count_left (after_entry m v (Split node col at first keep bound)) name
     + one_if (nat_eq node name)
     ≡ count_left v name + (one_if (nat_eq first name) + one_if (nat_eq (first + 1) name))
 split_left m v node col at first keep bound name may =
@@ -186,7 +189,7 @@ split_left m v node col at first keep bound name may =
     omega (arith, taken, come)
 
 left_after : (m : ModelParts) (v : View) (e : Entry) (name : ℕ) → MayJoin m v e
-    → count_left (after_entry v e) name + gone e name ≡ count_left v name + made e name
+    → count_left (after_entry m v e) name + gone e name ≡ count_left v name + made e name
 left_after m v (Start node) name may =
     let taken = open_taken name node may.node v.open_nodes may.first in
     let last = count_last name node v.held_nodes in
@@ -212,7 +215,7 @@ children_held v low high (suc (suc more)) name = omega arith
 
 held_after : (m : ModelParts) (v : View) (e : Entry) (name : ℕ) → MayJoin m v e
     → count_name name v.held_nodes
-    ≤ count_name name (after_entry v e).held_nodes + gone e name
+    ≤ count_name name (after_entry m v e).held_nodes + gone e name
 held_after m v (Start node) name may =
     let last = count_last name node v.held_nodes in omega (arith, last)
 held_after m v CutStart name may = omega arith
@@ -234,12 +237,13 @@ one_more n = omega arith
 
 -- an entry that may follow
 pub next_of : (m : ModelParts) (v : View) (e : Entry) → MayFollow m v e
-    → IsNext m v (after_entry v e) e
+    → IsNext m v (after_entry m v e) e
 next_of m v e follows = record {
-  names = names_after v e;
+  names = names_after m v e;
   counted = one_more v.entries;
-  falls = cutoff_after v e;
+  falls = cutoff_after m v e;
   boxes = λ name known. boxes_are_parts.stays m v e m.root name follows known;
   left = λ name. left_after m v e name follows.joins;
   held = λ name. held_after m v e name follows.joins;
+  cuts = cuts_are_derived.stay m v e;
 }

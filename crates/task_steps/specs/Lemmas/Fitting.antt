@@ -16,6 +16,7 @@ use Rattle.node_pool.specs.Branchings.{box_of}
 use Rattle.node_pool.specs.Follows.{IsHeld, MayFollow, MayJoin}
 use Rattle.node_pool.specs.Laws.{AreKnown}
 use Rattle.node_pool.specs.Lemmas.Boxes.{boxes_are_parts}
+use Rattle.node_pool.specs.Lemmas.Cuts.{cuts_are_derived}
 use Rattle.node_pool.specs.Views.{View, after_entry, fresh_view, is_known}
 use Rattle.node_pool.specs.declared.node.OpenNode.{OpenNode}
 use Rattle.node_pool.specs.declared.settings.SearchSettings.{SearchSettings}
@@ -24,6 +25,7 @@ use Rattle.task_steps.specs.Fits.{FitsView, IsBoxed}
 use Rattle.task_steps.specs.Lemmas.Entries.{IsNext, makes, next_of}
 use Rattle.task_steps.specs.Lemmas.NameCounts.{eq_from_test, is_among}
 use Rattle.task_steps.specs.Lemmas.TaskChunks.{paired_high, paired_low}
+use Rattle.task_steps.specs.Lemmas.TaskCuts.{none_derived}
 
 -- nodes that are left have known names
 
@@ -57,25 +59,25 @@ boxed_with m w name s word within paired is = record {
 children_boxed : (m : ModelParts) (v : View) (node col : ℕ) (at : ℤ) (first keep : ℕ) (bound : ℤ)
     (name : ℕ) (b : Bool) → nat_eq first name ≡ b → first < 2 ^ 64 - 1 → IsBoxed m v node
     → (b || nat_eq (first + 1) name) ≡ true
-    → IsBoxed m (after_entry v (Split node col at first keep bound)) name
+    → IsBoxed m (after_entry m v (Split node col at first keep bound)) name
 children_boxed m v node col at first keep bound name true is room parent h =
-    let w = after_entry v (Split node col at first keep bound) in
+    let w = after_entry m v (Split node col at first keep bound) in
     let s = box_of m.root v.branches node in
     subst (λ (n : ℕ). IsBoxed m w n) (eq_from_test first name is)
     (boxed_with m w first _ (omega arith) (within_low_child m.root s col at parent.within)
     (paired_low s col at parent.paired)
-    (boxes_are_parts.low v m.root node col at first keep bound))
+    (boxes_are_parts.low m v m.root node col at first keep bound))
 children_boxed m v node col at first keep bound name false is room parent h =
-    let w = after_entry v (Split node col at first keep bound) in
+    let w = after_entry m v (Split node col at first keep bound) in
     let s = box_of m.root v.branches node in
     subst (λ (n : ℕ). IsBoxed m w n) (eq_from_test (first + 1) name h)
     (boxed_with m w (first + 1) _ (omega arith) (within_high_child m.root s col at parent.within)
     (paired_high s col at parent.paired)
-    (boxes_are_parts.high v m.root node col at first keep bound))
+    (boxes_are_parts.high m v m.root node col at first keep bound))
 
 -- the box of a name that an entry makes
 made_boxed : (m : ModelParts) (v : View) (e : Entry) (name : ℕ) → FitsView m v → MayJoin m v e
-    → makes e name ≡ true → IsBoxed m (after_entry v e) name
+    → makes e name ≡ true → IsBoxed m (after_entry m v e) name
 made_boxed m v (Start node) name fits may h = absurd (false≢true h)
 made_boxed m v CutStart name fits may h = absurd (false≢true h)
 made_boxed m v (HeurStart node) name fits may h = absurd (false≢true h)
@@ -101,14 +103,18 @@ cutoff_stays a b falls few = omega (arith, ints)
 
 -- the view after an entry that may follow
 pub view_fits : (m : ModelParts) (v : View) (e : Entry) → FitsView m v → MayFollow m v e
-    → FitsView m (after_entry v e)
+    → FitsView m (after_entry m v e)
 view_fits m v e fits follows =
     let next = next_of m v e follows in
     record {
       known = boxes_are_parts.known_after m v e fits.known follows;
-      boxed = λ name h. boxed_cases m v (after_entry v e) e name (is_known v name) refl fits next
+      boxed = λ name h. boxed_cases m v (after_entry m v e) e name (is_known v name) refl fits next
           (made_boxed m v e name fits follows.joins) (sym (next.names name) ∙ h);
-      cutoff = cutoff_stays (after_entry v e).cutoff v.cutoff next.falls fits.cutoff;
+      cutoff = cutoff_stays (after_entry m v e).cutoff v.cutoff next.falls fits.cutoff;
+      cuts = record {
+        derived = cuts_are_derived.after m v e fits.cuts.derived;
+        few = cuts_are_derived.few m v e follows fits.cuts.few;
+      };
     }
 
 root_named : (name : ℕ) (b : Bool) → nat_eq 0 name ≡ b → (b || false) ≡ true → 0 ≡ name
@@ -127,6 +133,7 @@ fresh_view_fits m settings valid paired =
           (root_named name (nat_eq 0 name) refl h)
           (record { word = omega arith; within = within_itself m.root; paired = paired });
       cutoff = omega (arith, ints, greatest);
+      cuts = none_derived m;
     }
 
 -- nodes that count are known

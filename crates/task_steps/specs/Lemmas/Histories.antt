@@ -21,9 +21,9 @@ use Rattle.task_steps.specs.Lemmas.Entries.{base_of}
 -- the view by the rules of the search is that of the pool
 
 same_after : (m : ModelParts) (settings : SearchSettings) (v : View) (es : List KeyedEntry)
-    → tasks.view_after (rules m settings) v es ≡ view_after v es
+    → tasks.view_after (rules m settings) v es ≡ view_after m v es
 same_after m settings v [] = refl
-same_after m settings v (e ∷ es) = same_after m settings (after_entry v e.entry) es
+same_after m settings v (e ∷ es) = same_after m settings (after_entry m v e.entry) es
 
 pub same_view : (m : ModelParts) (settings : SearchSettings) (history : List KeyedEntry)
     → tasks.view_of (rules m settings) history ≡ view_of m settings history
@@ -33,8 +33,8 @@ same_view m settings history = same_after m settings (fresh_view m settings) his
 
 pub seen_next : (m : ModelParts) (settings : SearchSettings) (history : List KeyedEntry) (k : Key)
     (e : Entry) → view_of m settings (history ++ keyed_entry k e ∷ [])
-    ≡ after_entry (view_of m settings history) e
-seen_next m settings history k e = view_next (fresh_view m settings) history (keyed_entry k e)
+    ≡ after_entry m (view_of m settings history) e
+seen_next m settings history k e = view_next m (fresh_view m settings) history (keyed_entry k e)
 
 best_more : (best : Option Best) (history : List KeyedEntry) (e : KeyedEntry)
     → best_from best (history ++ e ∷ []) ≡ best_after (best_from best history) e.entry
@@ -57,41 +57,42 @@ children_with v s low high zero = refl
 children_with v s low high (suc zero) = refl
 children_with v s low high (suc (suc more)) = refl
 
-entry_with : (v : View) (s : SearchSettings) (e : Entry)
-    → after_entry (with_settings v s) e ≡ with_settings (after_entry v e) s
-entry_with v s (Start node) = refl
-entry_with v s CutStart = refl
-entry_with v s (HeurStart node) = refl
-entry_with v s Done = refl
-entry_with v s (Found value point) = refl
-entry_with v s (Cut derivation) = refl
-entry_with v s (Split node col at first keep bound) =
+entry_with : (m : ModelParts) (v : View) (s : SearchSettings) (e : Entry)
+    → after_entry m (with_settings v s) e ≡ with_settings (after_entry m v e) s
+entry_with m v s (Start node) = refl
+entry_with m v s CutStart = refl
+entry_with m v s (HeurStart node) = refl
+entry_with m v s Done = refl
+entry_with m v s (Found value point) = refl
+entry_with m v s (Cut derivation) = refl
+entry_with m v s (Split node col at first keep bound) =
     ap (λ (w : View). record w { entries = v.entries + 1 })
     (children_with (base_of v node col at first bound) s (open_node first bound)
     (open_node (first + 1) bound) keep)
-entry_with v s (Closed node) = refl
-entry_with v s Halt = refl
+entry_with m v s (Closed node) = refl
+entry_with m v s Halt = refl
 
-after_with : (v : View) (s : SearchSettings) (es : List KeyedEntry)
-    → view_after (with_settings v s) es ≡ with_settings (view_after v es) s
-after_with v s [] = refl
-after_with v s (e ∷ es) =
-    ap (λ (w : View). view_after w es) (entry_with v s e.entry)
-    ∙ after_with (after_entry v e.entry) s es
+after_with : (m : ModelParts) (v : View) (s : SearchSettings) (es : List KeyedEntry)
+    → view_after m (with_settings v s) es ≡ with_settings (view_after m v es) s
+after_with m v s [] = refl
+after_with m v s (e ∷ es) =
+    ap (λ (w : View). view_after m w es) (entry_with m v s e.entry)
+    ∙ after_with m (after_entry m v e.entry) s es
 
 -- only the settings of the view differ
 pub view_with : (m : ModelParts) (s t : SearchSettings) (history : List KeyedEntry)
     → view_of m s history ≡ with_settings (view_of m t history) s
-view_with m s t history = after_with (fresh_view m t) s history
+view_with m s t history = after_with m (fresh_view m t) s history
 
 joins_with : (m : ModelParts) (v : View) (s : SearchSettings) (e : Entry) → MayJoin m v e
     → MayJoin m (with_settings v s) e
 joins_with m v s (Start node) may = record { node = may.node; first = may.first }
-joins_with m v s CutStart may = absurd may
-joins_with m v s (HeurStart node) may = absurd may
+joins_with m v s CutStart may = tt
+joins_with m v s (HeurStart node) may = record { node = may.node; first = may.first }
 joins_with m v s Done may = tt
 joins_with m v s (Found value point) may = may
-joins_with m v s (Cut derivation) may = absurd may
+joins_with m v s (Cut derivation) may =
+    record { few = may.few; row = may.row; derived = may.derived }
 joins_with m v s (Split node col at first keep bound) may = record {
   held = record { among = may.held.among };
   cut = may.cut;

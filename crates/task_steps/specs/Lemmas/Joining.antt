@@ -12,6 +12,7 @@ use Rattle.work_stamp.specs.declared.entry.Entry.TheVariants.{Start, Done, Found
 use Rattle.node_pool.specs.Branchings.{box_of}
 use Rattle.node_pool.specs.Follows.{IsHeld, IsOpen, IsValued, MayFollow}
 use Rattle.node_pool.specs.Lemmas.Boxes.{boxes_are_parts}
+use Rattle.node_pool.specs.Lemmas.Cuts.{same_cuts}
 use Rattle.node_pool.specs.Nodes.{without_name}
 use Rattle.node_pool.specs.Views.{View, after_entry, is_known}
 use Rattle.task_steps.specs.Answers.{best_after}
@@ -78,18 +79,18 @@ once_new m v w e name next few none = omega (arith, next.left name, few, none)
 split_once : (m : ModelParts) (v : View) (node col : ℕ) (at : ℤ) (first keep : ℕ) (bound : ℤ)
     (best : Option Best) (claims : ℕ → Claim) (name : ℕ) (b : Bool) → is_known v name ≡ b
     → Meets m v best claims → MayFollow m v (Split node col at first keep bound)
-    → count_left (after_entry v (Split node col at first keep bound)) name ≤ 1
+    → count_left (after_entry m v (Split node col at first keep bound)) name ≤ 1
 split_once m v node col at first keep bound best claims name true is meets follows =
     let e = Split node col at first keep bound in
     let one = one_false (nat_eq first name)
     (ne_eqb first name (new_apart v first name follows.joins.first_new is)) in
     let two = one_false (nat_eq (first + 1) name)
     (ne_eqb (first + 1) name (new_apart v (first + 1) name follows.joins.second_new is)) in
-    once_next m v (after_entry v e) e name (next_of m v e follows) (omega (arith, one, two))
+    once_next m v (after_entry m v e) e name (next_of m v e follows) (omega (arith, one, two))
     (meets.once name)
 split_once m v node col at first keep bound best claims name false is meets follows =
     let e = Split node col at first keep bound in
-    once_new m v (after_entry v e) e name (next_of m v e follows)
+    once_new m v (after_entry m v e) e name (next_of m v e follows)
     (not_both (nat_eq first name) (nat_eq (first + 1) name) (next_differs first name))
     (no_left v name (count_left v name) refl
     (λ some. false≢true (sym is ∙ left_known v name meets.fits.known some)))
@@ -98,7 +99,7 @@ split_once m v node col at first keep bound best claims name false is meets foll
 
 kept_has : (m : ModelParts) (v : View) (node col : ℕ) (at : ℤ) (first keep : ℕ) (bound : ℤ)
     (h : Held) → box_of m.root v.branches node ≡ h.bounds
-    → HasHold m (after_entry v (Split node col at first keep bound))
+    → HasHold m (after_entry m v (Split node col at first keep bound))
     (child_held h col at first (keep_of keep))
 kept_has m v node col at first zero bound h same = record {
   held = record {
@@ -109,7 +110,7 @@ kept_has m v node col at first zero bound h same = record {
           one_true (nat_eq first first) (test_itself first),
         ));
   };
-  boxed = boxes_are_parts.low v m.root node col at first 0 bound
+  boxed = boxes_are_parts.low m v m.root node col at first 0 bound
       ∙ ap (λ (s : Sides). low_child s col at) same;
 }
 kept_has m v node col at first (suc zero) bound h same = record {
@@ -121,7 +122,7 @@ kept_has m v node col at first (suc zero) bound h same = record {
           one_true (nat_eq (first + 1) (first + 1)) (test_itself (first + 1)),
         ));
   };
-  boxed = boxes_are_parts.high v m.root node col at first 1 bound
+  boxed = boxes_are_parts.high m v m.root node col at first 1 bound
       ∙ ap (λ (s : Sides). high_child s col at) same;
 }
 kept_has m v node col at first (suc (suc more)) bound h same = tt
@@ -140,6 +141,7 @@ abbrev pub claim_on : ModelParts → View → Claim → ℕ → Claim
 claim_on m v c node = record c {
   hold = Some (record { name = node; bounds = box_of m.root v.branches node });
   cutoff = v.cutoff;
+  cuts = v.cuts;
 }
 
 module _ (m : ModelParts) (v : View) (best : Option Best) (slot : ℕ) (claims : ℕ → Claim)
@@ -154,16 +156,16 @@ module _ (m : ModelParts) (v : View) (best : Option Best) (slot : ℕ) (claims :
       owed_next m v w e j (claims j) (claims j) next owed
       (still_held m v w e (claims j).hold next meets.fits.known owed.held still)
       (le_both w.cutoff v.cutoff (claims j).cutoff next.falls owed.cutoff)
-      (omega arith) (omega (arith, few)) (λ k above most. neither k most)
+      (omega arith) (omega (arith, few)) owed.cuts (λ k above most. neither k most)
 
   same_claims : (j : ℕ) (a b : Held) → (j ≡ slot → ⊥) → (claims slot).hold ≡ Some a
       → (claims j).hold ≡ Some b → a.name ≡ b.name → ⊥
   same_claims j a b other left right same = other (sym (meets.apart slot j a b left right same))
 
-  pub joined_done : MayFollow m v Done → Meets m (after_entry v Done) best
+  pub joined_done : MayFollow m v Done → Meets m (after_entry m v Done) best
       (claims_with claims slot (claims slot))
   joined_done follows =
-      let w = after_entry v Done in
+      let w = after_entry m v Done in
       let next : IsNext m v w Done = next_of m v Done follows in
       meets_next m v w best best slot claims (claims slot) meets
       (view_fits m v Done meets.fits follows)
@@ -177,11 +179,11 @@ module _ (m : ModelParts) (v : View) (best : Option Best) (slot : ℕ) (claims :
   -- a point is found
   pub joined_found : (value : ℤ) (point : List ℤ) → IsValued m value point
       → MayFollow m v (Found value point)
-      → Meets m (after_entry v (Found value point)) (best_after best (Found value point))
+      → Meets m (after_entry m v (Found value point)) (best_after best (Found value point))
       (claims_with claims slot (claim_after (claims slot) (Found value point)))
   joined_found value point valued follows =
       let e = Found value point in
-      let w = after_entry v e in
+      let w = after_entry m v e in
       let next : IsNext m v w e = next_of m v e follows in
       let owed = meets.owed slot in
       let few = owed.few in
@@ -191,7 +193,7 @@ module _ (m : ModelParts) (v : View) (best : Option Best) (slot : ℕ) (claims :
       (λ name. once_next m v w e name next refl (meets.once name))
       (owed_next m v w e slot (claims slot) (claim_after (claims slot) e) next owed
       (still_held m v w e (claims slot).hold next meets.fits.known owed.held (λ b is. refl))
-      (omega (arith, ints, clamps)) (omega arith) (omega (arith, few))
+      (omega (arith, ints, clamps)) (omega arith) (omega (arith, few)) owed.cuts
       (λ k above most. quiet e (λ n. refl) _))
       (λ j other. others_next w e j next (λ b is. refl) (λ k most. quiet e (λ n. refl) _))
       same_claims
@@ -222,11 +224,11 @@ module _ (m : ModelParts) (v : View) (best : Option Best) (slot : ℕ) (claims :
 
   -- a held node is closed
   pub joined_closed : (name : ℕ) → IsDone m (claims slot) name → MayFollow m v (Closed name)
-      → Meets m (after_entry v (Closed name)) best
+      → Meets m (after_entry m v (Closed name)) best
       (claims_with claims slot (claim_after (claims slot) (Closed name)))
   joined_closed name done follows =
       let e = Closed name in
-      let w = after_entry v e in
+      let w = after_entry m v e in
       let next : IsNext m v w e = next_of m v e follows in
       let owed = meets.owed slot in
       let few = owed.few in
@@ -241,7 +243,7 @@ module _ (m : ModelParts) (v : View) (best : Option Best) (slot : ℕ) (claims :
       (closed_sound m v name best follows meets.fits.known meets.sound closed)
       (λ n. once_next m v w e n next refl (meets.once n))
       (owed_next m v w e slot (claims slot) (claim_after (claims slot) e) next owed tt owed.cutoff
-      (omega arith) (omega (arith, few)) (λ k above most. quiet e (λ n. refl) _))
+      (omega arith) (omega (arith, few)) owed.cuts (λ k above most. quiet e (λ n. refl) _))
       (λ j other. others_next w e j next (λ b is. others_apart name done.holds j b other is)
       (λ k most. quiet e (λ n. refl) _))
       (λ j a b other left right same. none-some a left)
@@ -250,11 +252,11 @@ module _ (m : ModelParts) (v : View) (best : Option Best) (slot : ℕ) (claims :
   pub joined_split : (name col : ℕ) (at : ℤ) (first keep : ℕ) (bound : ℤ)
       → IsSplitNow m slot (claims slot) name col at first keep → v.entries < 2 ^ 31
       → MayFollow m v (Split name col at first keep bound)
-      → Meets m (after_entry v (Split name col at first keep bound)) best
+      → Meets m (after_entry m v (Split name col at first keep bound)) best
       (claims_with claims slot (claim_after (claims slot) (Split name col at first keep bound)))
   joined_split name col at first keep bound now short follows =
       let e = Split name col at first keep bound in
-      let w = after_entry v e in
+      let w = after_entry m v e in
       let next : IsNext m v w e = next_of m v e follows in
       let c = claims slot in
       let owed = meets.owed slot in
@@ -265,6 +267,7 @@ module _ (m : ModelParts) (v : View) (best : Option Best) (slot : ℕ) (claims :
         hold = child_held node col at first (keep_of keep);
         cutoff = c.cutoff;
         splits = ordinal;
+        cuts = c.cuts;
       } in
       let same_claim : claim_after c e ≡ d = ap (λ (o : Option Held). record c {
         hold = hold_after_split o col at first (keep_of keep);
@@ -282,7 +285,7 @@ module _ (m : ModelParts) (v : View) (best : Option Best) (slot : ℕ) (claims :
       follows)
       (owed_next m v w e slot c d next owed (kept_has m v name col at first keep bound node box)
       (le_both w.cutoff v.cutoff c.cutoff next.falls owed.cutoff)
-      (omega arith) (omega (arith, few))
+      (omega arith) (omega (arith, few)) owed.cuts
       (λ k above k_most. split_makes_neither name col at first keep bound (child_name slot k)
       (subst (λ (f : ℕ). AreApart f (child_name slot k)) (sym now.named)
       (apart_by_ordinal slot ordinal k above))))
@@ -298,11 +301,11 @@ module _ (m : ModelParts) (v : View) (best : Option Best) (slot : ℕ) (claims :
 
   -- an open node is taken by a slot
   pub joined_start : (node : ℕ) → MayFollow m v (Start node)
-      → Meets m (after_entry v (Start node)) best
+      → Meets m (after_entry m v (Start node)) best
       (claims_with claims slot (claim_on m v (claims slot) node))
   joined_start node follows =
       let e = Start node in
-      let w = after_entry v e in
+      let w = after_entry m v e in
       let next : IsNext m v w e = next_of m v e follows in
       let d = claim_on m v (claims slot) node in
       let owed = meets.owed slot in
@@ -319,16 +322,16 @@ module _ (m : ModelParts) (v : View) (best : Option Best) (slot : ℕ) (claims :
               (omega (arith, count_last node node v.held_nodes, itself));
         };
         boxed = refl;
-      }) (omega (arith, ints)) (omega arith) (omega (arith, few))
+      }) (omega (arith, ints)) (omega arith) (omega (arith, few)) (same_cuts v.cuts)
       (λ k above most. quiet e (λ n. refl) _))
       (λ j other. others_next w e j next (λ b is. refl) (λ k most. quiet e (λ n. refl) _))
       (λ j a b other left right same. open_apart node b follows.joins (held_of j b right)
       (ap (λ (n : Held). n.name) (same_Some _ a left) ∙ same))
 
   -- a Halt changes no claim
-  pub joined_halt : MayFollow m v Halt → Meets m (after_entry v Halt) best claims
+  pub joined_halt : MayFollow m v Halt → Meets m (after_entry m v Halt) best claims
   joined_halt follows =
-      let w = after_entry v Halt in
+      let w = after_entry m v Halt in
       let next : IsNext m v w Halt = next_of m v Halt follows in
       record {
         fits = view_fits m v Halt meets.fits follows;

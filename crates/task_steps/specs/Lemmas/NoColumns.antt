@@ -59,33 +59,33 @@ first_goes before after last passes true due goes =
     (and_true (is_open after.outcome) (not (length after.steps == length before.steps)) due).0
 first_goes before after last passes false due goes = goes
 
-pass_goes : (rows : List Row) (n passes : ℕ) (run : Run)
-    → is_open (after_passes (suc n) rows [] run passes).run.outcome ≡ true
-    → is_open (after_pass rows [] run).outcome ≡ true
+pass_goes : (rows cuts : List Row) (n passes : ℕ) (run : Run)
+    → is_open (after_passes (suc n) rows cuts run passes).run.outcome ≡ true
+    → is_open (after_pass rows cuts run).outcome ≡ true
 unfolding after_passes
-pass_goes rows n passes run goes =
-    let after = after_pass rows [] run in
-    first_goes run after (after_passes n rows [] after (passes + 1)) (passes + 1)
+pass_goes rows cuts n passes run goes =
+    let after = after_pass rows cuts run in
+    first_goes run after (after_passes n rows cuts after (passes + 1)) (passes + 1)
     (is_due run after) refl goes
 
-calm_from : (rows : List Row) (s : Sides) (o : Option ℕ)
+calm_from : (rows cuts : List Row) (s : Sides) (o : Option ℕ)
     → ((k : ℕ) (d : Row) → k < length rows → (get_or rows k d).terms ≡ [])
-    → is_open (propagation_from rows [] s o).run.outcome ≡ true → (k : ℕ) (d : Row)
+    → is_open (propagation_from rows cuts s o).run.outcome ≡ true → (k : ℕ) (d : Row)
     → k < length rows → (get_or rows k d).least ≤ℤ pos 0
-calm_from rows s (Some col) bare goes = absurd (false≢true goes)
-calm_from rows s None bare goes =
-    let one = pass_goes rows 9 0 (open_run s []) goes in
+calm_from rows cuts s (Some col) bare goes = absurd (false≢true goes)
+calm_from rows cuts s None bare goes =
+    let one = pass_goes rows cuts 9 0 (open_run s []) goes in
     rows_calm Model 0 rows (open_run s []) bare
-    (both_go (after_rows Model 0 rows (open_run s [])) (after_rows Cut 0 []) _ refl one).0
+    (both_go (after_rows Model 0 rows (open_run s [])) (after_rows Cut 0 cuts) _ refl one).0
 
 -- the empty point is feasible
-pub empty_feasible : (m : ModelParts) (s : Sides) (x : List ℤ) → IsModel m → length m.cols ≡ 0
-    → length x ≡ 0 → (propagation_of m.rows [] s).run.outcome ≡ Open → IsFeasible m x
-empty_feasible m s x valid none long goes =
+pub empty_feasible : (m : ModelParts) (cuts : List Row) (s : Sides) (x : List ℤ) → IsModel m → length m.cols ≡ 0
+    → length x ≡ 0 → (propagation_of m.rows cuts s).run.outcome ≡ Open → IsFeasible m x
+empty_feasible m cuts s x valid none long goes =
     let bare : (k : ℕ) (d : Row) → k < length m.rows → (get_or m.rows k d).terms ≡ [] =
     λ k d h. no_terms (length m.cols) (get_or m.rows k d).terms none
     (valid.rows.each k d h).terms.each in
-    let calm = calm_from m.rows s (first_empty s) bare (ap is_open goes) in
+    let calm = calm_from m.rows cuts s (first_empty s) bare (ap is_open goes) in
     record {
       one_each = omega arith;
       inside = record { above = λ j h. absurd (omega arith); below = λ j h. absurd (omega arith) };

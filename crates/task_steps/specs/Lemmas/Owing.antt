@@ -4,7 +4,8 @@ use Rattle.std.proofs.lemmas.Bool.{ne_eqb}
 use Rattle.ip_core.specs.declared.model.ModelParts.{ModelParts}
 use Rattle.work_stamp.specs.declared.entry.Entry.{Entry}
 use Rattle.work_stamp.specs.declared.entry.Entry.TheVariants.{Split}
-use Rattle.node_pool.specs.Laws.{AreKnown}
+use Rattle.node_pool.specs.Laws.{AreKnown, HasCutsOf}
+use Rattle.node_pool.specs.Lemmas.Cuts.{more_cuts}
 use Rattle.node_pool.specs.Views.{View, is_known}
 use Rattle.task_steps.specs.Claims.{Claim, HasHold, Held, IsOwed, Meets, claims_with, count_left, count_name}
 use Rattle.task_steps.specs.Fits.{FitsView}
@@ -68,15 +69,16 @@ still_new m v w e name next new none =
 -- a claim that goes on
 pub owed_next : (m : ModelParts) (v w : View) (e : Entry) (slot : ℕ) (c d : Claim)
     → IsNext m v w e → IsOwed m v slot c → HasHold m w d.hold → w.cutoff ≤ℤ d.cutoff
-    → c.splits ≤ d.splits → d.splits ≤ suc v.entries
+    → c.splits ≤ d.splits → d.splits ≤ suc v.entries → HasCutsOf d.cuts v.cuts
     → ((k : ℕ) → d.splits < k → k ≤ 2 ^ 37 → MakesNeither e (child_name slot k))
     → IsOwed m w slot d
-owed_next m v w e slot c d next owed held below risen few neither =
+owed_next m v w e slot c d next owed held below risen few front neither =
     let counted = next.counted in
     record {
       held = held;
       cutoff = below;
       few = omega (arith, counted, few);
+      cuts = more_cuts d.cuts v.cuts w.cuts front next.cuts;
       first_new = λ k above most. still_new m v w e (child_name slot k) next
           (owed.first_new k (omega arith) most) (neither k above most).one;
       second_new = λ k above most. still_new m v w e (child_name slot k + 1) next

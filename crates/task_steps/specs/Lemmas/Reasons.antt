@@ -10,6 +10,7 @@ use Rattle.ip_core.specs.declared.leaf.Closing.{Closing}
 use Rattle.ip_core.specs.declared.leaf.Closing.TheVariants.{Bound}
 use Rattle.ip_core.specs.declared.leaf.Leaf.{Leaf}
 use Rattle.ip_core.specs.declared.model.ModelParts.{ModelParts}
+use Rattle.ip_core.specs.declared.row.Row.{Row}
 use Rattle.search_truth.specs.Boxes.{IsClosed}
 use Rattle.row_propagate.specs.declared.outcome.Outcome.TheVariants.{Open}
 use Rattle.row_propagate.specs.Lawful.{IsAfter, IsCause}
@@ -54,18 +55,16 @@ first_below_some (suc n) test j found =
 crossed_test : (high low : ℤ) → int_lt high low ≡ true → high <ℤ low
 crossed_test high low test = grind (arith, ints)
 
--- What the passes over a model's rows leave of a box: they came to their last box by lawful steps,
--- and there the outcome has its cause.
-pub record IsPassed (m : ModelParts) (s : Sides) (p : Propagation) : Type 0 where
-  pub after : IsAfter m.rows [] s p.sides p.steps
-  pub cause : IsCause m.rows [] p.sides p.run.outcome
+-- What the passes over a model's rows and cuts leave of a box: they came to their last box by lawful
+-- steps, and there the outcome has its cause.
+pub record IsPassed (m : ModelParts) (cuts : List Row) (s : Sides) (p : Propagation) : Type 0 where
+  pub after : IsAfter m.rows cuts s p.sides p.steps
+  pub cause : IsCause m.rows cuts p.sides p.run.outcome
 
-no_rows : (n : ℕ) (root : Sides) → AreRows n root []
-no_rows n root = record { each = λ k d h. absurd (omega arith) }
-
-passed_cases : (m : ModelParts) (s : Sides) (o : Option ℕ) → first_empty s ≡ o → IsModel m
-    → length s.lows ≡ length m.cols → IsPassed m s (propagation_from m.rows [] s o)
-passed_cases m s (Some col) found valid columns =
+passed_cases : (m : ModelParts) (cuts : List Row) (s : Sides) (o : Option ℕ) → first_empty s ≡ o
+    → IsModel m → AreRows (length m.cols) m.root cuts → length s.lows ≡ length m.cols
+    → IsPassed m cuts s (propagation_from m.rows cuts s o)
+passed_cases m cuts s (Some col) found valid of_cuts columns =
     let test = λ (j : ℕ). int_lt (int_at s.highs j) (int_at s.lows j) in
     let parts = first_below_some (length s.lows) test col found in
     record {
@@ -76,67 +75,66 @@ passed_cases m s (Some col) found valid columns =
             record { crossed = crossed_test (int_at s.highs col) (int_at s.lows col) parts.1 };
       };
     }
-passed_cases m s None found valid columns =
+passed_cases m cuts s None found valid of_cuts columns =
     let n = length m.cols in
     let first = open_run s [] in
     let solid : HasNoEmpty s = solid_holds s (ap (λ (o : Option ℕ). is_none o) found) in
     let rows : AreRows (length s.lows) m.root m.rows =
     subst (λ (k : ℕ). AreRows k m.root m.rows) (sym columns) valid.rows in
-    let lawful = passes_lawful m.rows [] s m.root 10 first 0 rows (no_rows (length s.lows) m.root)
-    refl (record {
+    let more : AreRows (length s.lows) m.root cuts =
+    subst (λ (k : ℕ). AreRows k m.root cuts) (sym columns) of_cuts in
+    let lawful = passes_lawful m.rows cuts s m.root 10 first 0 rows more refl (record {
       after = record { replays = refl; lawful = tt };
       columns = refl;
       solid = λ same. solid;
     }) in
-    let caused = passes_caused n m.root m.rows [] 10 first 0 valid.rows (no_rows n m.root) refl
+    let caused = passes_caused n m.root m.rows cuts 10 first 0 valid.rows of_cuts refl
     (record { columns = columns; cause = solid }) in
     record { after = lawful.after; cause = caused.cause }
 
-pub passes_passed : (m : ModelParts) (s : Sides) → IsModel m → length s.lows ≡ length m.cols
-    → IsPassed m s (propagation_of m.rows [] s)
-passes_passed m s valid columns = passed_cases m s (first_empty s) refl valid columns
+pub passes_passed : (m : ModelParts) (cuts : List Row) (s : Sides) → IsModel m
+    → AreRows (length m.cols) m.root cuts → length s.lows ≡ length m.cols
+    → IsPassed m cuts s (propagation_of m.rows cuts s)
+passes_passed m cuts s valid of_cuts columns =
+    passed_cases m cuts s (first_empty s) refl valid of_cuts columns
 
 -- the last box lies in the first one
-pub passed_within : (m : ModelParts) (s : Sides) (p : Propagation) → IsPassed m s p
+pub passed_within : (m : ModelParts) (cuts : List Row) (s : Sides) (p : Propagation) → IsPassed m cuts s p
     → IsWithin s p.sides
-passed_within m s p passed =
-    subst (IsWithin s) (sym passed.after.replays) (replay_within (row_named m.rows []) s p.steps)
+passed_within m cuts s p passed =
+    subst (IsWithin s) (sym passed.after.replays) (replay_within (row_named m.rows cuts) s p.steps)
 
 -- and has no empty column where nothing closed it
-pub passed_solid : (m : ModelParts) (s : Sides) (p : Propagation) → IsPassed m s p
+pub passed_solid : (m : ModelParts) (cuts : List Row) (s : Sides) (p : Propagation) → IsPassed m cuts s p
     → p.run.outcome ≡ Open → HasNoEmpty p.sides
-passed_solid m s p passed goes = subst (IsCause m.rows [] p.sides) goes passed.cause
+passed_solid m cuts s p passed goes = subst (IsCause m.rows cuts p.sides) goes passed.cause
 
 -- what closed it makes a leaf with the steps, which holds at every value
-pub outcome_leaf : (m : ModelParts) (s : Sides) (v : ℤ) (why : Closing) → IsModel m
-    → length s.lows ≡ length m.cols
-    → closing_of (propagation_of m.rows [] s).run.outcome ≡ Some why
-    → IsValidLeaf m [] v s (leaf_of (propagation_of m.rows [] s).steps why)
-outcome_leaf m s v why valid columns closes =
-    let p = propagation_of m.rows [] s in
-    let passed = passes_passed m s valid columns in
-    outcome_gives_leaf m [] v s p.sides p.steps p.run.outcome why passed.after passed.cause closes
+pub outcome_leaf : (m : ModelParts) (cuts : List Row) (s : Sides) (v : ℤ) (why : Closing) → IsModel m
+    → AreRows (length m.cols) m.root cuts → length s.lows ≡ length m.cols
+    → closing_of (propagation_of m.rows cuts s).run.outcome ≡ Some why
+    → IsValidLeaf m cuts v s (leaf_of (propagation_of m.rows cuts s).steps why)
+outcome_leaf m cuts s v why valid of_cuts columns closes =
+    let p = propagation_of m.rows cuts s in
+    let passed = passes_passed m cuts s valid of_cuts columns in
+    outcome_gives_leaf m cuts v s p.sides p.steps p.run.outcome why passed.after passed.cause closes
 
 -- and so do multipliers where nothing closed it, at each value up to their bound
-pub bound_leaf : (m : ModelParts) (s : Sides) (v : ℤ) (ys : List ℕ) → IsModel m
-    → length s.lows ≡ length m.cols → (propagation_of m.rows [] s).run.outcome ≡ Open
-    → AreMultipliers m [] ys → v ≤ℤ lagrangian_bound m [] (propagation_of m.rows [] s).sides ys
-    → IsValidLeaf m [] v s
-    (leaf_of (propagation_of m.rows [] s).steps (Bound (pairs_of (length m.rows) ys)))
-bound_leaf m s v ys valid columns goes mults high =
-    let p = propagation_of m.rows [] s in
-    let passed = passes_passed m s valid columns in
-    bound_gives_leaf m [] v s p.sides p.steps ys passed.after (passed_solid m s p passed goes) mults
+pub bound_leaf : (m : ModelParts) (cuts : List Row) (s : Sides) (v : ℤ) (ys : List ℕ) → IsModel m
+    → AreRows (length m.cols) m.root cuts → length s.lows ≡ length m.cols
+    → (propagation_of m.rows cuts s).run.outcome ≡ Open
+    → AreMultipliers m cuts ys → v ≤ℤ lagrangian_bound m cuts (propagation_of m.rows cuts s).sides ys
+    → IsValidLeaf m cuts v s
+    (leaf_of (propagation_of m.rows cuts s).steps (Bound (pairs_of (length m.rows) ys)))
+bound_leaf m cuts s v ys valid of_cuts columns goes mults high =
+    let p = propagation_of m.rows cuts s in
+    let passed = passes_passed m cuts s valid of_cuts columns in
+    bound_gives_leaf m cuts v s p.sides p.steps ys passed.after (passed_solid m cuts s p passed goes) mults
     high
 
-no_cuts_met : (x : List ℤ) → AreMet x []
-no_cuts_met x = record { each = λ k d h. absurd (omega arith) }
-
-no_cuts : (m : ModelParts) → AreValidCuts m []
-no_cuts m = record { rows = no_rows (length m.cols) m.root; met = λ x feasible. no_cuts_met x }
-
 -- a leaf that holds at a value closes its box there
-pub leaf_closed : (m : ModelParts) (v : ℤ) (s : Sides) (leaf : Leaf) → IsModel m
-    → length s.lows ≡ length m.cols → IsValidLeaf m [] v s leaf → IsClosed m v s
-leaf_closed m v s leaf valid columns holds =
-    leaf_closes m [] v s leaf valid (no_cuts m) columns holds
+pub leaf_closed : (m : ModelParts) (cuts : List Row) (v : ℤ) (s : Sides) (leaf : Leaf) → IsModel m
+    → AreValidCuts m cuts → length s.lows ≡ length m.cols → IsValidLeaf m cuts v s leaf
+    → IsClosed m v s
+leaf_closed m cuts v s leaf valid valid_cuts columns holds =
+    leaf_closes m cuts v s leaf valid valid_cuts columns holds

@@ -134,10 +134,10 @@ test_from_one false some = absurd (omega arith)
 pub closed_sound : (m : ModelParts) (v : View) (node : ℕ) (best : Option Best)
     → MayFollow m v (Closed node) → AreKnown v → IsSound m v best
     → IsClosed m v.cutoff (box_of m.root v.branches node)
-    → IsSound m (after_entry v (Closed node)) best
+    → IsSound m (after_entry m v (Closed node)) best
 closed_sound m v node best follows known sound closed =
     let e = Closed node in
-    sound_next m v (after_entry v e) e best (next_of m v e follows) known refl sound
+    sound_next m v (after_entry m v e) e best (next_of m v e follows) known refl sound
     (λ name some. IsShut (subst (λ (n : ℕ). IsClosed m v.cutoff (box_of m.root v.branches n))
     (eq_from_test node name (test_from_one (nat_eq node name) some)) closed))
 
@@ -161,10 +161,10 @@ child_left m v w e name next none some =
 -- the view after a held node gave way to its children
 pub split_sound : (m : ModelParts) (v : View) (node col : ℕ) (at : ℤ) (first keep : ℕ) (bound : ℤ)
     (best : Option Best) → MayFollow m v (Split node col at first keep bound) → AreKnown v
-    → IsSound m v best → IsSound m (after_entry v (Split node col at first keep bound)) best
+    → IsSound m v best → IsSound m (after_entry m v (Split node col at first keep bound)) best
 split_sound m v node col at first keep bound best follows known sound =
     let e = Split node col at first keep bound in
-    let w = after_entry v e in
+    let w = after_entry m v e in
     let next : IsNext m v w e = next_of m v e follows in
     let parent = held_known v node known follows.joins.held in
     let one = new_differs v first node follows.joins.first_new parent in
@@ -178,11 +178,11 @@ split_sound m v node col at first keep bound best follows known sound =
       col = col;
       at = at;
       low = subst (λ (b : Sides). Contains (boxes_of m w) b)
-          (boxes_are_parts.low v m.root node col at first keep bound) low;
+          (boxes_are_parts.low m v m.root node col at first keep bound) low;
       high = subst (λ (b : Sides). Contains (boxes_of m w) b)
-          (boxes_are_parts.high v m.root node col at first keep bound) high;
+          (boxes_are_parts.high m v m.root node col at first keep bound) high;
     }) in
-    sound_next m v w e best next known (split_cutoff v node col at first keep bound) sound
+    sound_next m v w e best next known (split_cutoff m v node col at first keep bound) sound
     (λ name some. subst (λ (n : ℕ). Fate m v.cutoff (boxes_of m w) (box_of m.root v.branches n))
     (eq_from_test node name (test_from_one (nat_eq node name) some)) fate)
 
@@ -243,7 +243,7 @@ found_cases m v value point best false is sound valued = record {
 -- the view after a point is found
 pub found_sound : (m : ModelParts) (v : View) (value : ℤ) (point : List ℤ) (best : Option Best)
     → IsModel m → IsSound m v best → IsValued m value point
-    → IsSound m (after_entry v (Found value point)) (with_found best value point)
+    → IsSound m (after_entry m v (Found value point)) (with_found best value point)
 found_sound m v value point best valid sound valued =
     subst (λ (t : Bool). IsSound m
     (record v { cutoff = cond (int_lt value v.cutoff) value v.cutoff; entries = v.entries + 1 })

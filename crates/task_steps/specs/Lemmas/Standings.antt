@@ -1,5 +1,5 @@
 -- Slots that stand at their claims.
-use Rattle.std.proofs.Common.{◌≡◌, ◌∙◌, ℕ, zero, suc, ◌+◌, ◌<◌, ◌≤◌, ◌⊎◌, inl, inr, Bool, true, false, cond, nat_eq, List, length, get_or, set, Option, Some, None, refl, sym, ap, subst, arith}
+use Rattle.std.proofs.Common.{◌≡◌, ◌∙◌, ℕ, zero, suc, ◌+◌, ◌<◌, ◌≤◌, ◌⊎◌, inl, inr, Bool, true, false, cond, nat_eq, List, length, get_or, set, Option, Some, None, refl, sym, ap, subst, arith, []}
 use Rattle.std.proofs.lemmas.Bool.{cases_lt, ne_eqb}
 use Rattle.std.proofs.lemmas.List.{get_or-set_other, get_or-set_same, get_or_past, length-set}
 use Rattle.std.proofs.lemmas.Option.{none-some}
@@ -12,6 +12,7 @@ use Rattle.task_steps.specs.Claims.{Claim, IsReady, claims_with}
 use Rattle.task_steps.specs.Rules.{rules}
 use Rattle.task_steps.specs.declared.local.Local.{Local}
 use Rattle.task_steps.specs.Lemmas.NameCounts.{eq_from_test, ne_from_test, test_itself}
+use Rattle.task_steps.specs.Lemmas.TaskCuts.{none_derived}
 
 within_cases : (slots : List (Option (Standing Local))) (slot : ℕ) (s : Standing Local)
     → get_or slots slot None ≡ Some s → (slot < length slots) ⊎ (length slots ≤ slot)
@@ -99,27 +100,33 @@ first_place first = omega arith
 
 -- fresh slots stand at a claim that holds nothing
 fresh_from : (m : ModelParts) (settings : SearchSettings) (first more j : ℕ) (c : Claim)
-    → first + more ≤ 64 → c.hold ≡ None → c.splits ≡ 0
+    → first + more ≤ 64 → c.hold ≡ None → c.splits ≡ 0 → c.cuts ≡ []
     → Stands m (first + j) c (get_or (fresh_standings (rules m settings) first more) j None)
-fresh_from m settings first zero j c few free none = tt
-fresh_from m settings first (suc more) zero c few free none =
+fresh_from m settings first zero j c few free none no_cuts = tt
+fresh_from m settings first (suc more) zero c few free none no_cuts =
     record {
-      fits = record { slot = omega arith; few = omega arith; task = tt };
+      fits = record {
+        slot = omega arith;
+        few = omega arith;
+        cuts = none_derived m;
+        task = tt;
+      };
       own = first_place first;
       splits = sym none;
+      cuts = sym no_cuts;
       task = free;
     }
-fresh_from m settings first (suc more) (suc j) c few free none =
+fresh_from m settings first (suc more) (suc j) c few free none no_cuts =
     subst (λ (i : ℕ). Stands m i c
     (get_or (fresh_standings (rules m settings) (suc first) more) j None)) (next_place first j)
-    (fresh_from m settings (suc first) more j c (omega arith) free none)
+    (fresh_from m settings (suc first) more j c (omega arith) free none no_cuts)
 
 zero_place : (j : ℕ) → 0 + j ≡ j
 zero_place j = omega arith
 
 pub fresh_stand : (m : ModelParts) (settings : SearchSettings) (slots j : ℕ) (c : Claim)
-    → slots ≤ 64 → c.hold ≡ None → c.splits ≡ 0
+    → slots ≤ 64 → c.hold ≡ None → c.splits ≡ 0 → c.cuts ≡ []
     → Stands m j c (get_or (fresh_standings (rules m settings) 0 slots) j None)
-fresh_stand m settings slots j c few free none =
+fresh_stand m settings slots j c few free none no_cuts =
     subst (λ (i : ℕ). Stands m i c (get_or (fresh_standings (rules m settings) 0 slots) j None))
-    (zero_place j) (fresh_from m settings 0 slots j c (omega arith) free none)
+    (zero_place j) (fresh_from m settings 0 slots j c (omega arith) free none no_cuts)

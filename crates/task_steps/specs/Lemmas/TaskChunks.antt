@@ -56,7 +56,7 @@ pub record IsGood (m : ModelParts) (l : Local) (task : Task) (limit : ℤ) (entr
   pub fits : FitsLocal m after
   pub words : HaveWords entries
   pub ready : (slot : ℕ) (c : Claim) → l.slot ≡ slot → l.splits ≡ c.splits → IsOnNode c task
-      → c.cutoff ≡ limit → IsReady m slot c entries after
+      → l.cuts ≡ c.cuts → c.cutoff ≡ limit → IsReady m slot c entries after
 
 -- the local after a chunk
 abbrev pub local_after : Local → TaskChunk → Local
@@ -88,10 +88,10 @@ pub closing_good : (m : ModelParts) (l : Local) (task : Task) (limit : ℤ) → 
     → IsTask m task → IsClosed m limit task.bounds
     → IsGood m l task limit (Closed task.node ∷ Done ∷ []) (record l { task = None })
 closing_good m l task limit fits task_fits closed = record {
-  fits = record { slot = fits.slot; few = fits.few; task = tt };
+  fits = record { slot = fits.slot; few = fits.few; cuts = fits.cuts; task = tt };
   words = words_more (Closed task.node) (Done ∷ [])
       (record { writable = tt; in_range = task_fits.word }) done_words;
-  ready = λ slot c own same on below. (
+  ready = λ slot c own same on seen below. (
     record {
       holds = record { node = on.node; is = on.is; named = on.named };
       closed = subst (IsClosed m c.cutoff) (sym on.boxed)
@@ -100,9 +100,10 @@ closing_good m l task limit fits task_fits closed = record {
     (
       tt,
       record {
-        fits = record { slot = fits.slot; few = fits.few; task = tt };
+        fits = record { slot = fits.slot; few = fits.few; cuts = fits.cuts; task = tt };
         own = own;
         splits = same;
+        cuts = seen;
         task = refl;
       },
     ),
@@ -164,7 +165,7 @@ kept_ready : (m : ModelParts) (l : Local) (task : Task) (limit : ℤ) (col : ℕ
       task = task_after task col at
           (child_name l.slot (next_ordinal l.splits)) limit keep;
     }) → l.slot ≡ slot → l.splits ≡ c.splits
-    → IsOnNode c task → c.cutoff ≡ limit
+    → IsOnNode c task → l.cuts ≡ c.cuts → c.cutoff ≡ limit
     → IsReady m slot c
     (Split task.node col at (child_name l.slot (next_ordinal l.splits))
     (number_of keep) bound ∷ end_entries keep)
@@ -173,13 +174,14 @@ kept_ready : (m : ModelParts) (l : Local) (task : Task) (limit : ℤ) (col : ℕ
       task = task_after task col at
           (child_name l.slot (next_ordinal l.splits)) limit keep;
     })
-kept_ready m l task limit col at bound Low slot c cut fits after own same on below =
+kept_ready m l task limit col at bound Low slot c cut fits after own same on seen below =
     let first = child_name l.slot (next_ordinal l.splits) in (
       split_now m l task col at 0 slot c cut fits own same on,
       record {
         fits = after;
         own = own;
         splits = ap next_ordinal same;
+        cuts = seen;
         task = record {
           node = low_held on.node col at first;
           is = ap (λ (o : Option Held). hold_after_split o col at first Low) on.is;
@@ -189,13 +191,14 @@ kept_ready m l task limit col at bound Low slot c cut fits after own same on bel
         };
       },
     )
-kept_ready m l task limit col at bound High slot c cut fits after own same on below =
+kept_ready m l task limit col at bound High slot c cut fits after own same on seen below =
     let first = child_name l.slot (next_ordinal l.splits) in (
       split_now m l task col at 1 slot c cut fits own same on,
       record {
         fits = after;
         own = own;
         splits = ap next_ordinal same;
+        cuts = seen;
         task = record {
           node = high_held on.node col at first;
           is = ap (λ (o : Option Held). hold_after_split o col at first High) on.is;
@@ -205,7 +208,7 @@ kept_ready m l task limit col at bound High slot c cut fits after own same on be
         };
       },
     )
-kept_ready m l task limit col at bound Neither slot c cut fits after own same on below =
+kept_ready m l task limit col at bound Neither slot c cut fits after own same on seen below =
     let first = child_name l.slot (next_ordinal l.splits) in (
       split_now m l task col at 2 slot c cut fits own same on,
       (
@@ -214,6 +217,7 @@ kept_ready m l task limit col at bound Neither slot c cut fits after own same on
           fits = after;
           own = own;
           splits = ap next_ordinal same;
+          cuts = seen;
           task = ap (λ (o : Option Held). hold_after_split o col at first Neither) on.is;
         },
       ),
@@ -243,6 +247,7 @@ splitting_good m l task limit col at bound keep valid fits task_fits cut signed 
     record {
       slot = fits.slot;
       few = omega arith;
+      cuts = fits.cuts;
       task = task_after_fits m task col at first limit keep word low task_fits room;
     } in
     record {
@@ -259,8 +264,8 @@ splitting_good m l task limit col at bound keep valid fits task_fits cut signed 
               bound_signed = signed;
             };
           }) (end_words keep);
-      ready = λ slot c own same on below. kept_ready m l task limit col at bound keep slot c cut
-          fits after own same on below;
+      ready = λ slot c own same on seen below. kept_ready m l task limit col at bound keep slot c cut
+          fits after own same on seen below;
     }
 
 -- a point is found first
@@ -270,10 +275,10 @@ found_good : (m : ModelParts) (l : Local) (task : Task) (limit value : ℤ) (poi
 found_good m l task limit value point es after valued words good = record {
   fits = good.fits;
   words = words_more (Found value point) es words good.words;
-  ready = λ slot c own same on below. (
+  ready = λ slot c own same on seen below. (
     valued,
     good.ready slot (record c { cutoff = value }) own same
-        (record { node = on.node; is = on.is; named = on.named; boxed = on.boxed }) refl,
+        (record { node = on.node; is = on.is; named = on.named; boxed = on.boxed }) seen refl,
   );
 }
 

@@ -9,6 +9,7 @@ use Rattle.ip_core.specs.Models.{IsModel}
 use Rattle.ip_core.specs.Truth.{IsFeasible, value_at}
 use Rattle.ip_core.specs.declared.leaf.Closing.{Closing}
 use Rattle.ip_core.specs.declared.leaf.Closing.TheVariants.{Bound, Conflict, Empty}
+use Rattle.ip_core.specs.Rows.{AreRows}
 use Rattle.ip_core.specs.declared.model.ModelParts.{ModelParts}
 use Rattle.ip_core.proofs.NarrowerBoxes.{within_both}
 use Rattle.ip_core.proofs.Widths.{costs_within_width, model_costs_narrow, narrow_fits}
@@ -37,6 +38,7 @@ use Rattle.task_steps.specs.Lemmas.Feasible.{and_true, both_true, feasible_from_
 use Rattle.task_steps.specs.Lemmas.NoColumns.{empty_feasible}
 use Rattle.task_steps.specs.Lemmas.TaskChunks.{IsGoodChunk, IsTried, closing_good, found_first, plain_good, worker_of}
 use Rattle.task_steps.specs.Lemmas.Reasons.{bound_leaf, leaf_closed, outcome_leaf, passed_solid, passed_within, passes_passed}
+use Rattle.task_steps.specs.Lemmas.TaskCuts.{cut_rows, cuts_valid}
 
 value_small : (m : ModelParts) (x : List ℤ) → IsModel m → IsFeasible m x
     → unsigned_abs (value_at m x) ≤ 2 ^ 50
@@ -83,10 +85,10 @@ column_cases m s limit a settled below (inr some) = some
 module _ (m : ModelParts) (l : Local) (task : Task) (valid : IsModel m) (paired : IsPaired m.root)
     (fits : FitsLocal m l) (task_fits : IsTask m task) where
   abbrev passes : Propagation
-  passes = propagation_of m.rows [] task.bounds
+  passes = propagation_of m.rows l.cuts task.bounds
 
   abbrev climb : Ascent
-  climb = ascent_of m passes.sides
+  climb = ascent_of m l.cuts passes.sides
 
   abbrev progress : Progress
   progress = progress_of passes climb.work
@@ -94,43 +96,48 @@ module _ (m : ModelParts) (l : Local) (task : Task) (valid : IsModel m) (paired 
   columns : length task.bounds.lows ≡ length m.cols
   columns = within_columns m task.bounds valid task_fits.within
 
+  of_cuts : AreRows (length m.cols) m.root l.cuts
+  of_cuts = cut_rows m l.cuts valid fits.cuts
+
   -- with no column the bound is at least 0, and the point is feasible with value 0
   empty_point : passes.run.outcome ≡ ended.Open → length m.cols ≡ 0 → IsFeasible m climb.point
   empty_point goes none =
       let costs = valid.bounds.costs in
       let long : length climb.point ≡ length m.costs = length-map _ _ ∙ length-range_with_len 0
       (length m.costs) in
-      empty_feasible m task.bounds climb.point valid none (omega arith) goes
+      empty_feasible m l.cuts task.bounds climb.point valid none (omega arith) goes
 
   empty_value : length m.cols ≡ 0 → value_at m climb.point ≡ pos 0
   empty_value none = let no_costs : length m.costs ≡ 0 = valid.bounds.costs ∙ none in
       rw no_costs refl
 
   empty_bound : length m.cols ≡ 0 → pos 0 ≤ℤ climb.bound
-  empty_bound none = ascent_above m passes.sides (valid.bounds.costs ∙ none)
+  empty_bound none = ascent_above m l.cuts passes.sides (valid.bounds.costs ∙ none)
 
   -- what closed the box in the passes makes a leaf that holds
   outcome_closed : (why : Closing) → closing_of passes.run.outcome ≡ Some why
       → IsClosed m task.cutoff task.bounds
   outcome_closed why closes =
-      leaf_closed m task.cutoff task.bounds (leaf_of passes.steps why) valid columns
-      (outcome_leaf m task.bounds task.cutoff why valid columns closes)
+      leaf_closed m l.cuts task.cutoff task.bounds (leaf_of passes.steps why) valid
+      (cuts_valid m l.cuts valid fits.cuts) columns
+      (outcome_leaf m l.cuts task.bounds task.cutoff why valid of_cuts columns closes)
 
   -- and so do the multipliers, at each value up to their bound
   bound_closed : (limit : ℤ) → passes.run.outcome ≡ ended.Open → limit ≤ℤ climb.bound
       → IsClosed m limit task.bounds
   bound_closed limit goes above =
-      leaf_closed m limit task.bounds
-      (leaf_of passes.steps (Bound (pairs_of (length m.rows) climb.mults))) valid columns
-      (bound_leaf m task.bounds limit climb.mults valid columns goes
-      (ascent_has_multipliers m [] passes.sides) above)
+      leaf_closed m l.cuts limit task.bounds
+      (leaf_of passes.steps (Bound (pairs_of (length m.rows) climb.mults))) valid
+      (cuts_valid m l.cuts valid fits.cuts) columns
+      (bound_leaf m l.cuts task.bounds limit climb.mults valid of_cuts columns goes
+      (ascent_has_multipliers m l.cuts passes.sides) above)
 
   tried : (limit : ℤ) → passes.run.outcome ≡ ended.Open → limit ≤ℤ pos (2 ^ 51)
       → (length m.cols ≡ 0 → limit ≤ℤ climb.bound) → IsTried m l task progress climb limit
   tried limit goes few settled =
-      let passed = passes_passed m task.bounds valid columns in
-      let within = passed_within m task.bounds passes passed in
-      let solid = passed_solid m task.bounds passes passed goes in
+      let passed = passes_passed m l.cuts task.bounds valid of_cuts columns in
+      let within = passed_within m l.cuts task.bounds passes passed in
+      let solid = passed_solid m l.cuts task.bounds passes passed goes in
       record {
         fits = fits;
         task_fits = task_fits;
@@ -138,7 +145,7 @@ module _ (m : ModelParts) (l : Local) (task : Task) (valid : IsModel m) (paired 
             within solid;
         columns = within.as_many_lows ∙ columns;
         few = few;
-        low = ascent_low m passes.sides valid
+        low = ascent_low m l.cuts passes.sides valid
             (model_within_reach m passes.sides valid
             (within_both m.root task.bounds passes.sides task_fits.within within) solid);
         closed = λ above. bound_closed limit goes above;
@@ -188,7 +195,7 @@ module _ (m : ModelParts) (l : Local) (task : Task) (valid : IsModel m) (paired 
       (λ none. not_found_settled goes is none (above_or_below task.cutoff climb.bound)))
 
   outcome_cases : (o : Ended) → passes.run.outcome ≡ o
-      → IsGoodChunk m l task task.cutoff (after_passes m task (worker_of l) passes o)
+      → IsGoodChunk m l task task.cutoff (after_passes m l.cuts task (worker_of l) passes o)
   outcome_cases ended.Open is = point_cases (is_found m task.cutoff climb) refl is
   outcome_cases (ended.Conflict row) is = closing_good m l task task.cutoff fits task_fits
       (outcome_closed (Conflict row) (ap closing_of is))
@@ -196,5 +203,5 @@ module _ (m : ModelParts) (l : Local) (task : Task) (valid : IsModel m) (paired 
       (outcome_closed (Empty col) (ap closing_of is))
 
   -- a chunk of a task
-  pub chunk_good : IsGoodChunk m l task task.cutoff (node_chunk m (worker_of l) task)
+  pub chunk_good : IsGoodChunk m l task task.cutoff (node_chunk m l.cuts (worker_of l) task)
   chunk_good = outcome_cases passes.run.outcome refl

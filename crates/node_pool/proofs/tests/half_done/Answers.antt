@@ -14,7 +14,7 @@ absorb-requires c =
 pub absorb-requires-2 : goal.absorb-requires-2
 absorb-requires-2 c =
     let is = c.in_ok-absorb.ensures
-    ∙ ap (λ (v : View). after_entry v (Start 0)) c.in_ok-pool.ensures in
+    ∙ ap (λ (v : View). after_entry c.args.model.now v (Start 0)) c.in_ok-pool.ensures in
     joins_at c.args.model.now dives (without_keys (Start 0 ∷ [])) c.absorb.new.self split_root is
     (record {
       short = omega arith;
@@ -35,16 +35,16 @@ absorb-requires-2 c =
 pub absorb-requires-3 : goal.absorb-requires-3
 absorb-requires-3 c =
     let is = c.in_ok-absorb-2.ensures
-    ∙ ap (λ (v : View). after_entry v split_root)
-    (c.in_ok-absorb.ensures ∙ ap (λ (v : View). after_entry v (Start 0)) c.in_ok-pool.ensures) in
+    ∙ ap (λ (v : View). after_entry c.args.model.now v split_root)
+    (c.in_ok-absorb.ensures ∙ ap (λ (v : View). after_entry c.args.model.now v (Start 0)) c.in_ok-pool.ensures) in
     joins_at c.args.model.now dives (without_keys (Start 0 ∷ split_root ∷ [])) c.absorb-2.new.self
     (Closed 4) is (record { short = omega arith; joins = record { among = refl } })
 
 pub absorb-requires-4 : goal.absorb-requires-4
 absorb-requires-4 c =
     let split = c.in_ok-absorb-2.ensures
-    ∙ ap (λ (v : View). after_entry v split_root)
-    (c.in_ok-absorb.ensures ∙ ap (λ (v : View). after_entry v (Start 0)) c.in_ok-pool.ensures) in
-    let is = c.in_ok-absorb-3.ensures ∙ ap (λ (v : View). after_entry v (Closed 4)) split in
+    ∙ ap (λ (v : View). after_entry c.args.model.now v split_root)
+    (c.in_ok-absorb.ensures ∙ ap (λ (v : View). after_entry c.args.model.now v (Start 0)) c.in_ok-pool.ensures) in
+    let is = c.in_ok-absorb-3.ensures ∙ ap (λ (v : View). after_entry c.args.model.now v (Closed 4)) split in
     joins_at c.args.model.now dives (without_keys (Start 0 ∷ split_root ∷ Closed 4 ∷ []))
     c.absorb-3.new.self Done is (record { short = omega arith; joins = tt })

@@ -14,7 +14,7 @@ absorb-requires c =
 pub absorb-requires-2 : goal.absorb-requires-2
 absorb-requires-2 c =
     let is = c.in_ok-absorb.ensures
-    ∙ ap (λ (v : View). after_entry v (Start 5)) c.in_ok-pool.ensures in
+    ∙ ap (λ (v : View). after_entry c.args.model.now v (Start 5)) c.in_ok-pool.ensures in
     joins_at c.args.model.now dives
     (without_keys (Start 0 ∷ split_root ∷ Closed 4 ∷ Done ∷ Start 5 ∷ [])) c.absorb.new.self
     (Closed 5) is (record { short = omega arith; joins = record { among = refl } })
@@ -22,8 +22,8 @@ absorb-requires-2 c =
 pub absorb-requires-3 : goal.absorb-requires-3
 absorb-requires-3 c =
     let is = c.in_ok-absorb-2.ensures
-    ∙ ap (λ (v : View). after_entry v (Closed 5))
-    (c.in_ok-absorb.ensures ∙ ap (λ (v : View). after_entry v (Start 5)) c.in_ok-pool.ensures) in
+    ∙ ap (λ (v : View). after_entry c.args.model.now v (Closed 5))
+    (c.in_ok-absorb.ensures ∙ ap (λ (v : View). after_entry c.args.model.now v (Start 5)) c.in_ok-pool.ensures) in
     joins_at c.args.model.now dives
     (without_keys (Start 0 ∷ split_root ∷ Closed 4 ∷ Done ∷ Start 5 ∷ Closed 5 ∷ []))
     c.absorb-2.new.self Halt is (record { short = omega arith; joins = tt })
