@@ -1,11 +1,12 @@
 -- Worked rows: certificates with their verdicts.
 use Rattle.std.specs.Prelude.{ℕ, ◌≡◌, refl, List, [], ◌∷◌, false, true, ℤ, pos, negsuc, Option, Some, None}
+use Rattle.ip_core.specs.declared.derivation.Derivation.{Derivation}
 use Rattle.ip_core.specs.declared.derivation.Derivation.TheVariants.{Gomory}
 use Rattle.ip_core.specs.declared.leaf.Closing.TheVariants.{Conflict, Bound}
 use Rattle.ip_core.specs.declared.leaf.Tighten.{Tighten}
 use Rattle.ip_core.specs.declared.model.ModelParts.{ModelParts}
 use Rattle.ip_core.specs.declared.row.Row.{Row}
-use Rattle.ip_core.specs.declared.row_ref.RowRef.TheVariants.{Model}
+use Rattle.ip_core.specs.declared.row_ref.RowRef.TheVariants.{Model, Cut}
 use Rattle.ip_core.proofs.SmallModels.{single}
 use Rattle.safe_bound.specs.Bounds.{reduced_cost, numerator}
 use Rattle.leaf_truth.specs.Laws.{leaf_of}
@@ -112,6 +113,40 @@ length_is_seen = refl
 row_is_seen : verdict_of (fault_of single (certificate 1 1 (pos 1) (Some (pos 1 ∷ [])) (bounded_by 341 ∷ []))) ≡ Rejected 4 PointRow
 row_is_seen = refl
 
--- any cut has a reason, and the nodes stand behind the cuts
-cut_is_seen : verdict_of (fault_of single (record { cols = 1; rows = 1; value = pos 2; point = Some (pos 2 ∷ []); cuts = Gomory [] 1 ∷ []; nodes = bounded_by 341 ∷ [] })) ≡ Rejected 6 CutDerivation
-cut_is_seen = refl
+-- the weighted first row, divided
+abbrev divided : ℕ → ℕ → Derivation
+divided weight divisor = Gomory (record { row = Model 0; weight = weight } ∷ []) divisor
+
+-- a cut as it is, as a cut behind others
+abbrev again : ℕ → Derivation
+again place = Gomory (record { row = Cut place; weight = 1 } ∷ []) 1
+
+-- the least of x is 2, by cuts and nodes
+abbrev two_by : List Derivation → List CertNode → Certificate
+two_by cuts nodes = record (two nodes) { cuts = cuts }
+
+-- a leaf that a multiplier of a cut bounds
+abbrev bounded_by_cut : ℕ → ℕ → CertNode
+bounded_by_cut place weight = Ends (leaf_of [] (Bound (record { row = Cut place; weight = weight } ∷ [])))
+
+-- a step that raises the low to 2 leaves nothing to be bounded
+cuts_are_derived : verdict_of (fault_of single (two_by (divided 1 2 ∷ divided 512 2048 ∷ []) (Ends (leaf_of (raised 0 0 ∷ []) (Bound [])) ∷ []))) ≡ Accepted
+unfolding reduced_cost numerator
+cuts_are_derived = refl
+
+-- a leaf over a cut over a cut
+second_cut_bounds : verdict_of (fault_of single (two_by (divided 1 2 ∷ again 0 ∷ []) (bounded_by_cut 1 513 ∷ []))) ≡ Accepted
+unfolding reduced_cost numerator
+second_cut_bounds = refl
+
+-- the nodes stand behind the cuts
+node_behind_cuts : verdict_of (fault_of single (two_by (divided 1 2 ∷ again 0 ∷ []) (bounded_by_cut 1 512 ∷ []))) ≡ Rejected 9 BadBound
+unfolding reduced_cost numerator
+node_behind_cuts = refl
+
+-- a divisor of nothing, and a cut over a later cut, before a leaf that doesn't hold
+no_divisor_is_seen : verdict_of (fault_of single (two_by (divided 1 2 ∷ divided 1 0 ∷ []) (bounded_by 341 ∷ []))) ≡ Rejected 7 CutDerivation
+no_divisor_is_seen = refl
+
+later_cut_is_seen : verdict_of (fault_of single (two_by (again 1 ∷ divided 1 2 ∷ []) (bounded_by 341 ∷ []))) ≡ Rejected 6 CutDerivation
+later_cut_is_seen = refl

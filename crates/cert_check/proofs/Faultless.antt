@@ -1,5 +1,5 @@
 -- A certificate is accepted exactly where each of its lines is as it is to be.
-use Rattle.std.proofs.Common.{◌≡◌, ◌↔◌, ◌∙◌, ℕ, zero, suc, ◌+◌, ◌<◌, ◌==◌, ◌⊎◌, inl, inr, Bool, true, false, not, ◌&&◌, ◌||◌, List, [], ◌∷◌, length, get_or, ℤ, pos, ◌+ℤ◌, int_le, Option, Some, None, IsTrue, refl, sym, ap, subst, arith}
+use Rattle.std.proofs.Common.{◌≡◌, ◌↔◌, ◌∙◌, ℕ, zero, suc, ◌+◌, ◌<◌, ◌==◌, ◌⊎◌, inl, inr, Bool, true, false, not, ◌&&◌, ◌||◌, List, [], ◌∷◌, length, get_or, ℤ, pos, ◌+ℤ◌, int_le, Option, Some, None, Result, Ok, Err, IsTrue, refl, sym, ap, subst, arith}
 use Rattle.std.specs.Ordering.{int_eq}
 use Rattle.std.specs.List.{list_all}
 use Rattle.std.proofs.lemmas.Bool.{and_from, and_parts, cond-true, eqb-true, eq-eqb}
@@ -11,7 +11,6 @@ use Rattle.ip_core.specs.Sides.{Sides, IsInside}
 use Rattle.ip_core.specs.Rows.{AreMet, activity}
 use Rattle.ip_core.specs.Truth.{IsFeasible, value_at}
 use Rattle.ip_core.specs.Boxes.{greatest_value}
-use Rattle.ip_core.specs.declared.derivation.Derivation.{Derivation}
 use Rattle.ip_core.specs.declared.model.ModelParts.{ModelParts}
 use Rattle.ip_core.specs.declared.row.Row.{Row}
 use Rattle.search_truth.specs.Cover.{HasFeasibleBest}
@@ -19,9 +18,10 @@ use Rattle.search_truth.specs.Search.{cutoff_of}
 use Rattle.leaf_truth.proofs.TestResults.{int_le-from, int_le-true}
 use Rattle.tree_cert.specs.declared.certificate.Certificate.{Certificate}
 use Rattle.cert_check.specs.Nodes.{reason_unless, or_else, on_line, nodes_fault}
-use Rattle.cert_check.specs.Verdicts.{all_below, is_between, is_in_root, is_met, size_reason, value_reason, point_reason, cuts_reason, IsAccepted, IsFaultless, AcceptedIsFaultless}
+use Rattle.cert_check.specs.Verdicts.{all_below, is_between, is_in_root, is_met, size_reason, value_reason, point_reason, cut_rows, tree_fault, IsAccepted, IsFaultless, AcceptedIsFaultless}
 use Rattle.cert_check.specs.declared.verdict.Why.{Why}
 use Rattle.cert_check.specs.declared.verdict.Why.TheVariants.{Size, PointValue, PointBounds, PointRow, CutDerivation}
+use Rattle.cert_check.proofs.CutRows.{derived_by, rows_of}
 
 split_last : (j n : ℕ) → j < suc n → (j < n) ⊎ (n ≡ j)
 split_last j n known = grind arith
@@ -157,49 +157,51 @@ answer-from m v (Some x) value best =
       none_both (reason_unless PointBounds (is_in_root m x)) (reason_unless PointRow (list_all (is_met x) m.rows)) (unless-from PointBounds (is_in_root m x) (point_in_root m x feasible)) (unless-from PointRow (list_all (is_met x) m.rows) (rows_met-from x m.rows feasible.rows_met)),
     )
 
-no_cuts : (cuts : List Derivation) → cuts_reason cuts ≡ None → cuts ≡ []
-no_cuts [] none = refl
-no_cuts (cut ∷ cuts) none = absurd (none-some CutDerivation (sym none))
+-- rows that cuts give, over which no node has a fault
+record IsGiven (m : ModelParts) (c : Certificate) (answer : Result (List Row) ℕ) : Type 0 where
+  pub rows : List Row
+  pub is : answer ≡ Ok rows
+  pub nodes : nodes_fault m rows c.value (7 + length c.cuts) (m.root ∷ []) c.nodes ≡ None
+
+given_rows : (m : ModelParts) (c : Certificate) (answer : Result (List Row) ℕ) → tree_fault m c answer ≡ None → IsGiven m c answer
+given_rows m c (Ok rows) none = record { rows = rows; is = refl; nodes = none }
+given_rows m c (Err line) none = absurd (none-some (record { line = line; why = CutDerivation }) (sym none))
 
 -- each line of an accepted certificate is as it is to be
 pub faultless_of : (m : ModelParts) (c : Certificate) → IsAccepted m c → IsFaultless m c
 faultless_of m c accepted =
-    let nodes = nodes_fault m [] c.value (7 + length c.cuts) (m.root ∷ []) c.nodes in
-    let cuts = or_else (on_line 6 (cuts_reason c.cuts)) nodes in
-    let point = or_else (on_line 4 (point_reason m c.point)) cuts in
+    let tree = tree_fault m c (cut_rows m 6 [] c.cuts) in
+    let point = or_else (on_line 4 (point_reason m c.point)) tree in
     let value = or_else (on_line 3 (value_reason m c.value c.point)) point in
     let second = both_none (on_line 2 (size_reason m c)) value accepted.none in
     let third = both_none (on_line 3 (value_reason m c.value c.point)) point second.1 in
-    let fourth = both_none (on_line 4 (point_reason m c.point)) cuts third.1 in
-    let sixth = both_none (on_line 6 (cuts_reason c.cuts)) nodes fourth.1 in
+    let fourth = both_none (on_line 4 (point_reason m c.point)) tree third.1 in
     let size = and_parts (c.cols == length m.cols) (c.rows == length m.rows) (unless-true Size (c.cols == length m.cols && c.rows == length m.rows) (line_none 2 (size_reason m c) second.0)) in
     let answer = answer-true m c.value c.point (line_none 3 (value_reason m c.value c.point) third.0) (line_none 4 (point_reason m c.point) fourth.0) in
-    let none = no_cuts c.cuts (line_none 6 (cuts_reason c.cuts) sixth.0) in
+    let given = given_rows m c (cut_rows m 6 [] c.cuts) fourth.1 in
     record {
       cols = eqb-true c.cols (length m.cols) size.0;
       rows = eqb-true c.rows (length m.rows) size.1;
       value = answer.0;
       point = answer.1;
-      cuts = none;
-      nodes = subst (λ (ds : List Derivation). nodes_fault m [] c.value (7 + length ds) (m.root ∷ []) c.nodes ≡ None) none sixth.1;
+      derived = given.rows;
+      cuts = derived_by m 6 c.cuts given.rows given.is;
+      nodes = given.nodes;
     }
 
 -- and where each is so, the certificate is accepted
 pub accepted_of : (m : ModelParts) (c : Certificate) → IsFaultless m c → IsAccepted m c
 accepted_of m c is =
-    let nodes = nodes_fault m [] c.value (7 + length c.cuts) (m.root ∷ []) c.nodes in
-    let cuts = or_else (on_line 6 (cuts_reason c.cuts)) nodes in
-    let point = or_else (on_line 4 (point_reason m c.point)) cuts in
+    let tree = tree_fault m c (cut_rows m 6 [] c.cuts) in
+    let point = or_else (on_line 4 (point_reason m c.point)) tree in
     let value = or_else (on_line 3 (value_reason m c.value c.point)) point in
     let answer = answer-from m c.value c.point is.value is.point in
     let size = unless-from Size (c.cols == length m.cols && c.rows == length m.rows) (and_from (c.cols == length m.cols) (c.rows == length m.rows) (eq-eqb c.cols (length m.cols) is.cols) (eq-eqb c.rows (length m.rows) is.rows)) in
-    let no_fault : nodes ≡ None = subst (λ (ds : List Derivation). nodes_fault m [] c.value (7 + length ds) (m.root ∷ []) c.nodes ≡ None) (sym is.cuts) is.nodes in
-    let no_cut : cuts_reason c.cuts ≡ None = ap cuts_reason is.cuts in
+    let no_fault : tree ≡ None = ap (tree_fault m c) (rows_of m 6 c.cuts is.derived is.cuts) ∙ is.nodes in
     record {
       none = none_both (on_line 2 (size_reason m c)) value (none_line 2 (size_reason m c) size)
           (none_both (on_line 3 (value_reason m c.value c.point)) point (none_line 3 (value_reason m c.value c.point) answer.0)
-          (none_both (on_line 4 (point_reason m c.point)) cuts (none_line 4 (point_reason m c.point) answer.1)
-          (none_both (on_line 6 (cuts_reason c.cuts)) nodes (none_line 6 (cuts_reason c.cuts) no_cut) no_fault)));
+          (none_both (on_line 4 (point_reason m c.point)) tree (none_line 4 (point_reason m c.point) answer.1) no_fault));
     }
 
 pub accepted_is_faultless : AcceptedIsFaultless

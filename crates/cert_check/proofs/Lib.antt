@@ -1,4 +1,5 @@
 pub mod Examples
+pub mod CutRows
 pub mod Faultless
 pub mod Truth
 pub mod Walking

@@ -44,9 +44,9 @@ why_of (Some BadStep) = Some Step
 why_of (Some BadConflict) = Some Conflict
 why_of (Some BadBound) = Some Bound
 
--- The first fault of nodes, the first of which stands on this line. The boxes are those of the
--- trees that are due, in order. A split's box gives way to those of its children, with the column at
--- most `at` and at least `next`, and a leaf's box is done with.
+-- The first fault of nodes over rows of cuts, where the first node stands on this line. The boxes
+-- are those of the trees that are due, in order. A split's box gives way to those of its children,
+-- with the column at most `at` and at least `next`, and a leaf's box is done with.
 abbrev pub nodes_fault :
     ModelParts → List Row → ℤ → ℕ → List Sides → List CertNode → Option Fault
 nodes_fault m cuts v line boxes [] = None

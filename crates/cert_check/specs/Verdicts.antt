@@ -1,5 +1,5 @@
 -- When a certificate is accepted, and else its first fault.
-use Rattle.std.specs.Prelude.{ℕ, zero, suc, ◌≡◌, ◌↔◌, ◌+◌, ◌==◌, Bool, true, not, ◌&&◌, ◌||◌, List, [], ◌∷◌, length, ℤ, pos, ◌+ℤ◌, int_le, Option, Some, None}
+use Rattle.std.specs.Prelude.{ℕ, zero, suc, ◌≡◌, ◌↔◌, ◌+◌, ◌==◌, Bool, true, not, ◌&&◌, ◌||◌, List, [], ◌∷◌, ◌++◌, length, ℤ, pos, ◌+ℤ◌, int_le, Option, Some, None, Result, Ok, Err}
 use Rattle.std.specs.Ordering.{int_eq}
 use Rattle.std.specs.List.{list_all}
 use Rattle.ip_core.specs.Numbers.{int_at}
@@ -13,6 +13,8 @@ use Rattle.ip_core.specs.declared.model.ModelParts.{ModelParts}
 use Rattle.ip_core.specs.declared.row.Row.{Row}
 use Rattle.search_truth.specs.Cover.{HasFeasibleBest}
 use Rattle.search_truth.specs.Search.{cutoff_of}
+use Rattle.cut_derive.specs.Derivations.{derived_row}
+use Rattle.cut_derive.specs.declared.refusal.Refusal.{Refusal}
 use Rattle.tree_cert.specs.Trees.{IsTree}
 use Rattle.tree_cert.specs.declared.certificate.Certificate.{Certificate}
 use Rattle.cert_check.specs.Nodes.{Fault, reason_unless, or_else, on_line, nodes_fault}
@@ -55,21 +57,34 @@ point_reason m None = None
 point_reason m (Some x) = or_else (reason_unless PointBounds (is_in_root m x))
     (reason_unless PointRow (list_all (is_met x) m.rows))
 
--- the first cut: no derivation of a cut is known, so that none holds
-abbrev pub cuts_reason : List Derivation → Option Why
-cuts_reason [] = None
-cuts_reason (cut ∷ cuts) = Some CutDerivation
+-- what follows from a row, if it was derived; and else the refused line
+abbrev pub if_derived :
+    ℕ → Result Row Refusal → (Row → Result (List Row) ℕ) → Result (List Row) ℕ
+if_derived line (Ok row) rest = rest row
+if_derived line (Err refusal) rest = Err line
+
+-- Rows with those of the cuts behind them, where each cut is derived over the model and the rows
+-- before its own; or the line of the first cut that is refused. The first stands on this line.
+abbrev pub cut_rows : ModelParts → ℕ → List Row → List Derivation → Result (List Row) ℕ
+cut_rows m line rows [] = Ok rows
+cut_rows m line rows (cut ∷ cuts) = if_derived line (derived_row m rows cut)
+    (λ row. cut_rows m (suc line) (rows ++ row ∷ []) cuts)
+
+-- The fault of the first cut that is refused, or else that of the nodes over the rows of the cuts.
+-- The nodes stand from the second line behind the cuts on, and the first has the root box.
+abbrev pub tree_fault : ModelParts → Certificate → Result (List Row) ℕ → Option Fault
+tree_fault m c (Err line) = Some (record { line = line; why = CutDerivation })
+tree_fault m c (Ok rows) =
+    nodes_fault m rows c.value (7 + length c.cuts) (m.root ∷ []) c.nodes
 
 -- The first fault of a certificate: the first line with a reason, and the least of its reasons. The
--- cuts stand from the sixth line on, and the nodes from the second line behind the cuts on. The
--- first node has the root box.
+-- cuts stand from the sixth line on.
 abbrev pub fault_of : ModelParts → Certificate → Option Fault
 fault_of m c =
     or_else (on_line 2 (size_reason m c))
     (or_else (on_line 3 (value_reason m c.value c.point))
     (or_else (on_line 4 (point_reason m c.point))
-    (or_else (on_line 6 (cuts_reason c.cuts))
-    (nodes_fault m [] c.value (7 + length c.cuts) (m.root ∷ []) c.nodes))))
+    (tree_fault m c (cut_rows m 6 [] c.cuts))))
 
 -- what the checker says of a first fault, or of none
 abbrev pub verdict_of : Option Fault → Verdict
@@ -90,15 +105,24 @@ IsShown m v (Some x) = IsBest m x × (v ≡ value_at m x)
 pub record IsTrueCertificate (m : ModelParts) (c : Certificate) : Type 0 where
   pub shown : IsShown m c.value c.point
 
+-- the cuts give these rows, each derived over the model and the rows before it
+pub data AreDerivedBy (m : ModelParts) : List Derivation → List Row → Type 0 where
+  NoCut : AreDerivedBy m [] []
+  OneMore : (cuts : List Derivation) (rows : List Row) (cut : Derivation) (row : Row)
+      → AreDerivedBy m cuts rows → derived_row m rows cut ≡ Ok row
+      → AreDerivedBy m (cuts ++ cut ∷ []) (rows ++ row ∷ [])
+
 -- What is so of an accepted certificate, line by line: the value is that of the point, which is
--- feasible, or without one it is one more than the greatest value on the root box.
+-- feasible, or without one it is one more than the greatest value on the root box. The nodes have no
+-- fault over the rows of the cuts.
 pub record IsFaultless (m : ModelParts) (c : Certificate) : Type 0 where
   pub cols : c.cols ≡ length m.cols
   pub rows : c.rows ≡ length m.rows
   pub value : c.value ≡ cutoff_of m c.point
   pub point : HasFeasibleBest m c.point
-  pub cuts : c.cuts ≡ []
-  pub nodes : nodes_fault m [] c.value 7 (m.root ∷ []) c.nodes ≡ None
+  pub derived : List Row
+  pub cuts : AreDerivedBy m c.cuts derived
+  pub nodes : nodes_fault m derived c.value (7 + length c.cuts) (m.root ∷ []) c.nodes ≡ None
 
 -- a certificate is accepted exactly where each of its lines is as it is to be
 abbrev pub AcceptedIsFaultless : Type 0

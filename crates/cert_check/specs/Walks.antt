@@ -3,6 +3,7 @@ use Rattle.std.specs.Prelude.{ℕ, ◌<◌, Bool, List, [], ◌∷◌, length, i
 use Rattle.ip_core.specs.Sides.{Sides, IsPaired, with_high, with_low}
 use Rattle.ip_core.specs.Boxes.{IsWithin}
 use Rattle.ip_core.specs.declared.model.ModelParts.{ModelParts}
+use Rattle.ip_core.specs.declared.row.Row.{Row}
 use Rattle.leaf_truth.specs.Leaves.{leaf_reason}
 use Rattle.tree_cert.specs.declared.node.CertNode.{CertNode}
 use Rattle.tree_cert.specs.declared.node.CertNode.TheVariants.{Split, Leaf as Ends}
@@ -61,10 +62,10 @@ boxes_after due (Split col at next) =
     with_high due.here col at ∷ with_low due.here col next ∷ due.later
 boxes_after due (Ends leaf) = due.later
 
--- why a node of a certificate without cuts is rejected, where it has this box
-abbrev pub node_reason : ModelParts → ℤ → Sides → CertNode → Option Why
-node_reason m v s (Split col at next) = split_reason m col at next
-node_reason m v s (Ends leaf) = why_of (leaf_reason m [] v s leaf)
+-- why a node is rejected over the rows of the cuts, where it has this box
+abbrev pub node_reason : ModelParts → List Row → ℤ → Sides → CertNode → Option Why
+node_reason m cuts v s (Split col at next) = split_reason m col at next
+node_reason m cuts v s (Ends leaf) = why_of (leaf_reason m cuts v s leaf)
 
 -- the column of a node, if it is a split, is one of the box
 abbrev pub HasColumn : Sides → CertNode → Type 0

@@ -1,8 +1,8 @@
 ghost use Rattle.cert_check.specs.Verdicts.{AcceptedIsFaultless, AcceptedIsTrue};
 
 /// A law with nothing to run: a certificate is accepted exactly where its numbers of columns and rows are those of the
-/// model, its point is feasible, its value is that of the point or one more than the greatest on the root box, it has
-/// no cuts, and no node has a fault.
+/// model, its point is feasible, its value is that of the point or one more than the greatest on the root box, each cut
+/// is derived over the rows before it, and no node has a fault over the rows of the cuts.
 pub fn accepted_is_faultless()
     ensures { AcceptedIsFaultless }
 {}

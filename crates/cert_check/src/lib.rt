@@ -1,11 +1,13 @@
 //! The checker: whether a certificate shows what it says of a model.
 //!
-//! It judges the lines of a certificate in order, and goes through the tree with one box, which each split narrows and
-//! which is put back behind the split's children. A leaf is tried on a copy of the box.
+//! It judges the lines of a certificate in order. Each cut is derived over the rows before it. The tree is gone through
+//! with one box, which each split narrows and which is put back behind the split's children. A leaf is tried on a copy
+//! of the box.
 #![tactic(auto)]
 
 mod branch;
 mod checker;
+mod cuts;
 mod laws;
 mod lines;
 mod nodes;

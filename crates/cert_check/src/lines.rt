@@ -1,12 +1,12 @@
-//! The lines of a certificate before its nodes.
+//! The lines of a certificate before its cuts.
 ghost use Rattle.std.specs.Prelude.{◌≡◌, ◌<◌, length, true, Some, None};
 ghost use Rattle.std.specs.List.{list_all};
 ghost use Rattle.cert_check.specs.declared.verdict.Why.TheVariants.{PointValue};
 ghost use Rattle.cert_check.specs.Nodes.{reason_unless as reason_unless_of};
-ghost use Rattle.cert_check.specs.Verdicts.{all_below, is_between as is_between_of, is_in_root as is_in_root_of, is_met, size_reason as size_reason_of, value_reason as value_reason_of, point_reason as point_reason_of, cuts_reason as cuts_reason_of};
+ghost use Rattle.cert_check.specs.Verdicts.{all_below, is_between as is_between_of, is_in_root as is_in_root_of, is_met, size_reason as size_reason_of, value_reason as value_reason_of, point_reason as point_reason_of};
 
 use crate::Why;
-use ip_core::{Bounds, Derivation, Model, Point, greatest_value, is_feasible, value};
+use ip_core::{Bounds, Model, Point, greatest_value, is_feasible, value};
 use tree_cert::Certificate;
 
 /// Why the numbers of columns and rows are rejected.
@@ -67,17 +67,6 @@ fn meets_rows(model: &Model, point: &Point) -> bool
     ensures { result ≡ list_all (is_met point.now) model.now.rows }
 {
     is_feasible(model, point)
-}
-
-/// Why the first cut is rejected, if there is one.
-pub fn cuts_reason(cuts: &[Derivation]) -> Option<Why>
-    ensures { result ≡ cuts_reason_of cuts.now }
-{
-    if cuts.is_empty() {
-        None
-    } else {
-        Some(Why::CutDerivation)
-    }
 }
 
 /// The reason, unless a test passes.

@@ -1,6 +1,7 @@
-//! The nodes of a certificate without cuts.
+//! The nodes of a certificate.
 ghost use Rattle.std.specs.Prelude.{◌≡◌, ◌≤◌, ◌^◌, ◌∷◌, [], length, IfOk};
 ghost use Rattle.ip_core.specs.Boxes.{IsWithin};
+ghost use Rattle.safe_bound.specs.Premises.{AreCuts};
 ghost use Rattle.leaf_truth.specs.Leaves.{leaf_reason as leaf_reason_of};
 ghost use Rattle.leaf_truth.specs.Rooms.{HasRoom};
 ghost use Rattle.cert_check.specs.Nodes.{nodes_fault, split_reason as split_reason_of, why_of as why_of_leaf};
@@ -9,32 +10,33 @@ ghost use Rattle.cert_check.specs.Walks.{HasColumn, boxes_after, boxes_if, node_
 
 use crate::walk::Walk;
 use crate::{Verdict, Why};
-use ip_core::{Leaf, Model, OutOfMemory};
+use ip_core::{Leaf, Model, OutOfMemory, Row};
 use leaf_truth::{LeafReason, Scratch, leaf_reason};
 use std::alloc::Global;
 use tree_cert::CertNode;
 
-/// The line of the first node of a certificate without cuts.
-const FIRST_LINE: u32 = 7;
-
-/// The verdict on nodes with this value, where no earlier line has a reason and there are no cuts. It ends with the
-/// tree.
+/// The verdict on nodes over the rows of the cuts, with this value, where no earlier line has a reason and the first
+/// node stands on this line. It ends with the tree.
 pub fn nodes_verdict(
     alloc: Global,
     model: &Model,
+    cuts: &[Row],
     value: i64,
+    first_line: u32,
     nodes: &[CertNode],
 ) -> Result<Verdict, OutOfMemory>
-    requires { length nodes.now ≤ 2 ^ 30 }
-    ensures { IfOk result (λ verdict. verdict ≡
-        verdict_of (nodes_fault model.now [] value 7 (model.now.root ∷ []) nodes.now)) }
+    requires cuts { AreCuts model.now cuts.now }
+    requires line { first_line ≤ 2 ^ 31 }
+    requires few { length nodes.now ≤ 2 ^ 30 }
+    ensures { IfOk result (λ verdict. verdict ≡ verdict_of
+        (nodes_fault model.now cuts.now value first_line (model.now.root ∷ []) nodes.now)) }
 {
     let _limits = model.parts();
-    let mut scratch = Scratch::of(alloc, model, &[])?;
+    let mut scratch = Scratch::of(alloc, model, cuts)?;
     let mut walk = Walk::new(alloc, model.root())?;
-    let mut line = FIRST_LINE;
+    let mut line = first_line;
     for node in nodes {
-        if let Some(why) = node_reason(alloc, model, value, node, &walk, &mut scratch)? {
+        if let Some(why) = node_reason(alloc, model, cuts, value, node, &walk, &mut scratch)? {
             return Ok(Verdict::Rejected { line, why });
         }
         if !go_on(&mut walk, node)? {
@@ -49,20 +51,22 @@ pub fn nodes_verdict(
 fn node_reason(
     alloc: Global,
     model: &Model,
+    cuts: &[Row],
     value: i64,
     node: &CertNode,
     walk: &Walk,
     scratch: &mut Scratch,
 ) -> Result<Option<Why>, OutOfMemory>
+    requires cuts { AreCuts model.now cuts.now }
     requires within { IsWithin model.now.root walk.now.here }
-    requires room { HasRoom model.now [] scratch.old }
+    requires room { HasRoom model.now cuts.now scratch.old }
     ensures reason { IfOk result (λ why. why ≡
-        node_reason_of model.now value walk.now.here node.now) }
-    ensures room { HasRoom model.now [] scratch.new }
+        node_reason_of model.now cuts.now value walk.now.here node.now) }
+    ensures room { HasRoom model.now cuts.now scratch.new }
 {
     match node {
         CertNode::Split { col, at, next } => Ok(split_reason(model, *col, *at, *next)),
-        CertNode::Leaf(leaf) => leaf_why(alloc, model, value, leaf, walk, scratch),
+        CertNode::Leaf(leaf) => leaf_why(alloc, model, cuts, value, leaf, walk, scratch),
     }
 }
 
@@ -83,19 +87,21 @@ fn split_reason(model: &Model, col: u32, at: i64, next: i64) -> Option<Why>
 fn leaf_why(
     alloc: Global,
     model: &Model,
+    cuts: &[Row],
     value: i64,
     leaf: &Leaf,
     walk: &Walk,
     scratch: &mut Scratch,
 ) -> Result<Option<Why>, OutOfMemory>
+    requires cuts { AreCuts model.now cuts.now }
     requires within { IsWithin model.now.root walk.now.here }
-    requires room { HasRoom model.now [] scratch.old }
+    requires room { HasRoom model.now cuts.now scratch.old }
     ensures reason { IfOk result (λ why. why ≡
-        why_of_leaf (leaf_reason_of model.now [] value walk.now.here leaf.now)) }
-    ensures room { HasRoom model.now [] scratch.new }
+        why_of_leaf (leaf_reason_of model.now cuts.now value walk.now.here leaf.now)) }
+    ensures room { HasRoom model.now cuts.now scratch.new }
 {
     let mut bounds = walk.bounds(alloc)?;
-    let reason = leaf_reason(model, &[], &mut bounds, value, leaf, scratch);
+    let reason = leaf_reason(model, cuts, &mut bounds, value, leaf, scratch);
     Ok(why_of(reason))
 }
 

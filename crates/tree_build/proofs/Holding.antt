@@ -54,19 +54,19 @@ child_left m v w e name next none some =
 
 split_children : (m : ModelParts) (v : View) (node col : ℕ) (mid : ℤ) (first keep : ℕ) (bound : ℤ)
     → AreKnown v → MayFollow m v (Split node col mid first keep bound)
-    → HasChildren m v (after_entry v (Split node col mid first keep bound))
+    → HasChildren m v (after_entry m v (Split node col mid first keep bound))
     (record { node = node; col = col; at = mid; first = first }) node
 split_children m v node col mid first keep bound known may =
     let e = Split node col mid first keep bound in
-    let w = after_entry v e in
+    let w = after_entry m v e in
     let next : IsNext m v w e = next_of m v e may in
     let parent = held_known v node known may.joins.held in
     let one = new_differs v first node may.joins.first_new parent in
     let two = new_differs v (first + 1) node may.joins.second_new parent in
     record {
       column = may.joins.cut.known;
-      low = boxes_are_parts.low v m.root node col mid first keep bound;
-      high = boxes_are_parts.high v m.root node col mid first keep bound;
+      low = boxes_are_parts.low m v m.root node col mid first keep bound;
+      high = boxes_are_parts.high m v m.root node col mid first keep bound;
       low_left = child_left m v w e first next (one_false (nat_eq node first) one)
           (omega (arith, one_true (nat_eq first first) (test_itself first)));
       high_left = child_left m v w e (first + 1) next (one_false (nat_eq node (first + 1)) two)
@@ -84,7 +84,7 @@ children_cases m v w q p name false is has parts = absurd (none-some p parts)
 -- an entry that parts the node of a name
 children_of : (m : ModelParts) (v : View) (e : Entry) (name : ℕ) (p : Parting) → AreKnown v
     → MayFollow m v e → of_node name (parting_of e) ≡ Some p
-    → HasChildren m v (after_entry v e) p name
+    → HasChildren m v (after_entry m v e) p name
 children_of m v (Start node) name p known may parts = absurd (none-some p parts)
 children_of m v CutStart name p known may parts = absurd (none-some p parts)
 children_of m v (HeurStart node) name p known may parts = absurd (none-some p parts)
@@ -92,7 +92,7 @@ children_of m v Done name p known may parts = absurd (none-some p parts)
 children_of m v (Found value point) name p known may parts = absurd (none-some p parts)
 children_of m v (Cut derivation) name p known may parts = absurd (none-some p parts)
 children_of m v (Split node col mid first keep bound) name p known may parts =
-    children_cases m v (after_entry v (Split node col mid first keep bound))
+    children_cases m v (after_entry m v (Split node col mid first keep bound))
     (record { node = node; col = col; at = mid; first = first }) p name (nat_eq node name) refl
     (split_children m v node col mid first keep bound known may) parts
 children_of m v (Closed node) name p known may parts = absurd (none-some p parts)
@@ -127,7 +127,7 @@ stays (Closed node) name parts = closed_cases node name (nat_eq node name) refl
 stays Halt name parts = inl refl
 
 known_next : (m : ModelParts) (v : View) (e : Entry) (name : ℕ) → MayFollow m v e
-    → is_known v name ≡ true → is_known (after_entry v e) name ≡ true
+    → is_known v name ≡ true → is_known (after_entry m v e) name ≡ true
 known_next m v e name may known =
     (next_of m v e may).names name ∙ or_first (is_known v name) (makes e name) known
 
@@ -150,11 +150,11 @@ split_passes m p column =
 module _ (m : ModelParts) (records : List Record) (v_end : View) (value : ℤ) where
   -- nodes have no fault, on whatever line they begin
   abbrev Holds : List Sides → List CertNode → Type 0
-  Holds boxes nodes = (line : ℕ) → nodes_fault m [] value line boxes nodes ≡ None
+  Holds boxes nodes = (line : ℕ) → nodes_fault m v_end.cuts value line boxes nodes ≡ None
 
   -- the leaf of a name holds on its last box
   pub record HasLeaf (name : ℕ) : Type 0 where
-    pub valid : IsValidLeaf m [] value (box_of m.root v_end.branches name) (leaf_named records name)
+    pub valid : IsValidLeaf m v_end.cuts value (box_of m.root v_end.branches name) (leaf_named records name)
 
   -- the node of a name is left, or closed
   abbrev pub IsDue : View → ℕ → Type 0
@@ -166,12 +166,12 @@ module _ (m : ModelParts) (records : List Record) (v_end : View) (value : ℤ) w
       → HasLeaf name
 
   leaf_holds : (s : Sides) (leaf : Leaf) (boxes : List Sides) (rest : List CertNode)
-      → IsValidLeaf m [] value s leaf → Holds boxes rest
-      → (line : ℕ) → or_else (on_line line (why_of (leaf_reason m [] value s leaf)))
-      (nodes_fault m [] value (suc line) boxes rest) ≡ None
+      → IsValidLeaf m v_end.cuts value s leaf → Holds boxes rest
+      → (line : ℕ) → or_else (on_line line (why_of (leaf_reason m v_end.cuts value s leaf)))
+      (nodes_fault m v_end.cuts value (suc line) boxes rest) ≡ None
   leaf_holds s leaf boxes rest valid after line =
       ap (λ (why : Option LeafReason). or_else (on_line line (why_of why))
-      (nodes_fault m [] value (suc line) boxes rest)) valid.no_reason
+      (nodes_fault m v_end.cuts value (suc line) boxes rest)) valid.no_reason
       ∙ after (suc line)
 
   due_leaf : (v : View) (name : ℕ) → count_left v name ≡ 0 → IsDue v name → HasLeaf name
@@ -198,15 +198,15 @@ module _ (m : ModelParts) (records : List Record) (v_end : View) (value : ℤ) w
       → Holds (s ∷ boxes) ((split_node p ∷ (one ++ two)) ++ rest)
   split_holds s p low high boxes one two rest column is_low is_high holds line =
       ap (λ (why : Option Why). or_else (on_line line why)
-      (nodes_fault m [] value (suc line)
+      (nodes_fault m v_end.cuts value (suc line)
       (with_high s p.col p.at ∷ with_low s p.col (p.at +ℤ pos 1) ∷ boxes) ((one ++ two) ++ rest)))
       (split_passes m p column)
-      ∙ ap (λ (nodes : List CertNode). nodes_fault m [] value (suc line)
+      ∙ ap (λ (nodes : List CertNode). nodes_fault m v_end.cuts value (suc line)
       (with_high s p.col p.at ∷ with_low s p.col (p.at +ℤ pos 1) ∷ boxes) nodes)
       (append_assoc one two rest)
-      ∙ subst (λ (b : Sides). nodes_fault m [] value (suc line)
+      ∙ subst (λ (b : Sides). nodes_fault m v_end.cuts value (suc line)
       (with_high s p.col p.at ∷ b ∷ boxes) (one ++ (two ++ rest)) ≡ None) is_high
-      (subst (λ (a : Sides). nodes_fault m [] value (suc line)
+      (subst (λ (a : Sides). nodes_fault m v_end.cuts value (suc line)
       (a ∷ high ∷ boxes) (one ++ (two ++ rest)) ≡ None) is_low (holds (suc line)))
 
   -- the trees of all nodes that are due hold after an entry
@@ -218,11 +218,11 @@ module _ (m : ModelParts) (records : List Record) (v_end : View) (value : ℤ) w
   step_cases : (v : View) (e : KeyedEntry) (es : List KeyedEntry) (name : ℕ) (boxes : List Sides)
       (rest : List CertNode) (o : Option Parting) → of_node name (parting_of e.entry) ≡ o
       → AreKnown v → MayFollow m v e.entry → Close (e ∷ es)
-      → HoldsAfter (after_entry v e.entry) es → is_known v name ≡ true → IsDue v name
+      → HoldsAfter (after_entry m v e.entry) es → is_known v name ≡ true → IsDue v name
       → Holds boxes rest
       → Holds (box_of m.root v.branches name ∷ boxes) (parted o name (tree_of records es) ++ rest)
   step_cases v e es name boxes rest None parts known may close later is_name due holds =
-      let w = after_entry v e.entry in
+      let w = after_entry m v e.entry in
       let next : IsNext m v w e.entry = next_of m v e.entry may in
       subst (λ (s : Sides). Holds (s ∷ boxes) (tree_of records es name ++ rest))
       (next.boxes name is_name)
@@ -230,7 +230,7 @@ module _ (m : ModelParts) (records : List Record) (v_end : View) (value : ℤ) w
       (due_cases v w e name next (first_closes e es name close) (stays e.entry name parts) due)
       holds)
   step_cases v e es name boxes rest (Some p) parts known may close later is_name due holds =
-      let w = after_entry v e.entry in
+      let w = after_entry m v e.entry in
       let has : HasChildren m v w p name = children_of m v e.entry name p known may parts in
       let after : AreKnown w = boxes_are_parts.known_after m v e.entry known may in
       let low = box_of m.root w.branches p.first in
@@ -244,16 +244,16 @@ module _ (m : ModelParts) (records : List Record) (v_end : View) (value : ℤ) w
 
   -- the tree of a node that is due, where nothing is left at the end
   pub tree_holds : (v : View) (es : List KeyedEntry) → AreKnown v → Follows m v es
-      → view_after v es ≡ v_end → ((name : ℕ) → count_left v_end name ≡ 0) → Close es
+      → view_after m v es ≡ v_end → ((name : ℕ) → count_left v_end name ≡ 0) → Close es
       → HoldsAfter v es
   tree_holds v [] known follow same none close name boxes rest is_name due holds =
       let leaf = due_leaf v name (ap (λ (u : View). count_left u name) same ∙ none name) due in
       leaf_holds (box_of m.root v.branches name) (leaf_named records name) boxes rest
-      (subst (λ (u : View). IsValidLeaf m [] value (box_of m.root u.branches name)
+      (subst (λ (u : View). IsValidLeaf m v_end.cuts value (box_of m.root u.branches name)
       (leaf_named records name)) (sym same) leaf.valid) holds
   tree_holds v (e ∷ es) known follow same none close name boxes rest is_name due holds =
       step_cases v e es name boxes rest (of_node name (parting_of e.entry)) refl known follow.0
       close
-      (tree_holds (after_entry v e.entry) es
+      (tree_holds (after_entry m v e.entry) es
       (boxes_are_parts.known_after m v e.entry known follow.0) follow.1 same none
       (λ place n key there. close (suc place) n key there)) is_name due holds

@@ -31,14 +31,14 @@ use Rattle.tree_build.specs.declared.parting.Parting.{Parting}
 -- each entry may follow the view of those before it
 abbrev pub Follows : ModelParts → View → List KeyedEntry → Type 0
 Follows m v [] = Unit {0}
-Follows m v (e ∷ es) = MayFollow m v e.entry × Follows m (after_entry v e.entry) es
+Follows m v (e ∷ es) = MayFollow m v e.entry × Follows m (after_entry m v e.entry) es
 
 pub follows_view : (m : ModelParts) (settings : SearchSettings) (front es : List KeyedEntry)
     → FollowInTurn (MayFollowIn m settings) front es → Follows m (view_of m settings front) es
 follows_view m settings front [] follow = tt
 follows_view m settings front (e ∷ es) follow = (
   follow.0,
-  subst (λ (v : View). Follows m v es) (view_next (fresh_view m settings) front e)
+  subst (λ (v : View). Follows m v es) (view_next m (fresh_view m settings) front e)
       (follows_view m settings (front ++ e ∷ []) es follow.1),
 )
 
@@ -121,12 +121,12 @@ or_none false b h = refl
 
 -- what is new after an entry was new before it
 new_before : (m : ModelParts) (v : View) (e : Entry) (name : ℕ) → MayFollow m v e
-    → is_known (after_entry v e) name ≡ false → is_known v name ≡ false
+    → is_known (after_entry m v e) name ≡ false → is_known v name ≡ false
 new_before m v e name may new =
     or_none (is_known v name) (makes e name) (sym ((next_of m v e may).names name) ∙ new)
 
 parting_before : (m : ModelParts) (v : View) (e : Entry) (p : Parting) → MayFollow m v e
-    → IsNewParting (after_entry v e) p → IsNewParting v p
+    → IsNewParting (after_entry m v e) p → IsNewParting v p
 parting_before m v e p may new = record {
   first = new_before m v e p.first may new.first;
   second = new_before m v e (p.first + 1) may new.second;
@@ -135,7 +135,7 @@ parting_before m v e p may new = record {
 
 new_cases : (m : ModelParts) (v : View) (e : Entry) (name : ℕ) (p : Parting) (o later : Option Parting)
     → of_node name (parting_of e) ≡ o → MayFollow m v e
-    → (later ≡ Some p → IsNewParting (after_entry v e) p) → parting_or o later ≡ Some p
+    → (later ≡ Some p → IsNewParting (after_entry m v e) p) → parting_or o later ≡ Some p
     → IsNewParting v p
 new_cases m v e name p None later is may rest found =
     parting_before m v e p may (rest found)
@@ -148,7 +148,7 @@ pub first_new : (m : ModelParts) (v : View) (es : List KeyedEntry) (name : ℕ) 
 first_new m v [] name p follow found = absurd (none-some p found)
 first_new m v (e ∷ es) name p follow found =
     new_cases m v e.entry name p (of_node name (parting_of e.entry)) (first_parting es name) refl
-    follow.0 (first_new m (after_entry v e.entry) es name p follow.1) found
+    follow.0 (first_new m (after_entry m v e.entry) es name p follow.1) found
 
 -- ---- trees
 
@@ -189,7 +189,7 @@ pub split_tree : (m : ModelParts) (v : View) (records : List Record) (es : List 
 split_tree m v records [] name p known follow found = absurd (none-some p found)
 split_tree m v records (e ∷ es) name p known follow found =
     split_cases records es name p (of_node name (parting_of e.entry)) (first_parting es name) found
-    (split_tree m (after_entry v e.entry) records es name p
+    (split_tree m (after_entry m v e.entry) records es name p
     (boxes_are_parts.known_after m v e.entry known follow.0) follow.1)
     ∙ same_children m v records e es p known follow.0 (first_new m v (e ∷ es) name p follow found)
 

@@ -6,4 +6,4 @@ pub returns-in-Some-clause-truth : goal.returns-in-Some-clause-truth
 returns-in-Some-clause-truth c = verdict_is_true c.args.model.now c.args.certificate.now c.in-Some.verdict c.parts-limits.ensures.limits c.requires.tree c.in-Some.ensures
 
 pub returns-clause-truth : goal.returns-clause-truth
-returns-clause-truth c = verdicts_are_true c.args.model.now c.args.certificate.now c.nodes_verdict.result c.parts-limits.ensures.limits c.requires.tree (search rules)
+returns-clause-truth c = verdicts_are_true c.args.model.now c.args.certificate.now c.tree_verdict.result c.parts-limits.ensures.limits c.requires.tree (search rules)
