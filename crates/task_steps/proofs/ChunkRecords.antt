@@ -30,7 +30,7 @@ use Rattle.task_steps.specs.Records.{HasRecord}
 use Rattle.task_steps.specs.Tasks.{after_passes, after_point, ascent_of, child_name, closing_chunk, end_entries, is_found, kept_child, next_ordinal, node_chunk, on_point, progress_of, splitting_chunk}
 use Rattle.task_steps.specs.declared.keep.Keep.{Keep}
 use Rattle.task_steps.specs.declared.keep.Keep.TheVariants.{Low, High, Neither}
-use Rattle.task_steps.specs.declared.local.Task.{Task}
+use Rattle.task_steps.specs.declared.local.NodeTask.{NodeTask}
 use Rattle.task_steps.specs.declared.task_chunk.Progress.{Progress}
 use Rattle.task_steps.specs.declared.task_chunk.TaskChunk.{TaskChunk}
 use Rattle.task_steps.specs.declared.task_chunk.Worker.{Worker}
@@ -45,7 +45,7 @@ pub record IsNotAbove (z : ℤ) (entries : List Entry) : Type 0 where
 
 -- a record of the task's node, which these entries close: on the task's box the leaf holds at every
 -- value up to the task's cutoff and the values that are found
-pub record IsOfTask (m : ModelParts) (cuts : List Row) (task : Task) (entries : List Entry) (item : Record) : Type 0
+pub record IsOfTask (m : ModelParts) (cuts : List Row) (task : NodeTask) (entries : List Entry) (item : Record) : Type 0
   where
     pub named : item.node ≡ task.node
     pub leaf : (z : ℤ) → z ≤ℤ task.cutoff → IsNotAbove z entries
@@ -54,7 +54,7 @@ pub record IsOfTask (m : ModelParts) (cuts : List Row) (task : Task) (entries : 
     pub closed : at entries place ≡ Some (Closed item.node)
 
 -- each record of a chunk is one of the task's node, and a node that the chunk closes has one
-pub record AreOfTask (m : ModelParts) (cuts : List Row) (task : Task) (chunk : TaskChunk) : Type 0 where
+pub record AreOfTask (m : ModelParts) (cuts : List Row) (task : NodeTask) (chunk : TaskChunk) : Type 0 where
   pub each : (place : ℕ) (item : Record) → at chunk.records place ≡ Some item
       → IsOfTask m cuts task chunk.entries item
   pub closed : (place name : ℕ) → at chunk.entries place ≡ Some (Closed name)
@@ -109,7 +109,7 @@ split_closes_none node col mid first keep bound (suc place) name there =
 
 -- ---- a chunk that splits its node
 
-splitting_records : (m : ModelParts) (cuts : List Row) (task : Task) (worker : Worker) (found : List Entry)
+splitting_records : (m : ModelParts) (cuts : List Row) (task : NodeTask) (worker : Worker) (found : List Entry)
     (cutoff : ℤ) (work col : ℕ) (mid : ℤ) (keep : Keep) (bound : ℤ) → CloseNone found
     → AreOfTask m cuts task (splitting_chunk task worker found cutoff work col mid keep bound)
 splitting_records m cuts task worker found cutoff work col mid keep bound none =
@@ -169,7 +169,7 @@ found_first found node z below = record {
       (Found value point) (at-front found (Closed node ∷ []) place (Found value point) there));
 }
 
-closing_records : (m : ModelParts) (cuts : List Row) (task : Task) (splits : ℕ) (found : List Entry) (p : Progress)
+closing_records : (m : ModelParts) (cuts : List Row) (task : NodeTask) (splits : ℕ) (found : List Entry) (p : Progress)
     (why : Closing) → CloseNone found
     → ((z : ℤ) → z ≤ℤ task.cutoff → IsNotAbove z found
     → IsValidLeaf m cuts z task.bounds (leaf_of p.steps why))
@@ -209,7 +209,7 @@ closing_records m cuts task splits found p why none holds = record {
 
 -- ---- a chunk after its ascent
 
-point_records : (m : ModelParts) (cuts : List Row) (task : Task) (worker : Worker) (p : Progress) (a : Ascent)
+point_records : (m : ModelParts) (cuts : List Row) (task : NodeTask) (worker : Worker) (p : Progress) (a : Ascent)
     (cutoff : ℤ) (found : List Entry) → CloseNone found
     → (cutoff ≤ℤ a.bound → (z : ℤ) → z ≤ℤ task.cutoff → IsNotAbove z found
     → IsValidLeaf m cuts z task.bounds (leaf_of p.steps (Bound (pairs_of (length m.rows) a.mults))))
@@ -225,7 +225,7 @@ point_records m cuts task worker p a cutoff found none holds =
 
 -- ---- one chunk of a task
 
-module _ (m : ModelParts) (cuts : List Row) (worker : Worker) (task : Task) (valid : IsModel m)
+module _ (m : ModelParts) (cuts : List Row) (worker : Worker) (task : NodeTask) (valid : IsModel m)
     (of_cuts : AreRows (length m.cols) m.root cuts) (fits : IsTask m task) where
   abbrev passes : Propagation
   passes = propagation_of m.rows cuts task.bounds

@@ -7,4 +7,7 @@ pub mod LimitCauses
 pub mod ChunkRecords
 pub mod LaterViews
 pub mod RecordTruths
+pub mod RootPoints
+pub mod CutSlots
 pub mod WorkedRecords
+pub mod WorkedCuts

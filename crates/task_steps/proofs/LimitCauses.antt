@@ -44,7 +44,10 @@ use Rattle.node_pool.specs.declared.pick.Pick.TheVariants.{CutLoop, Heuristic, N
 use Rattle.node_pool.specs.declared.settings.SearchSettings.{SearchSettings}
 use Rattle.task_steps.specs.Agrees.{Agrees, MayFollowIn}
 use Rattle.task_steps.specs.Answers.{best_found, finished_status, status_of, view_status}
+use Rattle.cut_derive.specs.declared.new_cut.NewCut.{NewCut}
 use Rattle.task_steps.specs.Columns.{middle, widest}
+use Rattle.task_steps.specs.CutTasks.{cuts_after, end_of_cuts, entries_of_cuts, new_cuts}
+use Rattle.task_steps.specs.declared.local.CutTask.{CutTask}
 use Rattle.task_steps.specs.Fits.{FitsLocal, FitsView}
 use Rattle.task_steps.specs.Keeps.{number_of}
 use Rattle.task_steps.specs.Lawful.{search_law}
@@ -57,6 +60,7 @@ use Rattle.task_steps.specs.declared.answer.Status.TheVariants.{StoreLimit, Work
 use Rattle.task_steps.specs.declared.keep.Keep.{Keep}
 use Rattle.task_steps.specs.declared.keep.Keep.TheVariants.{Low, High, Neither}
 use Rattle.task_steps.specs.declared.local.Local.{Local}
+use Rattle.task_steps.specs.declared.local.NodeTask.{NodeTask}
 use Rattle.task_steps.specs.declared.local.Task.{Task}
 use Rattle.task_steps.specs.declared.task_chunk.TaskChunk.{TaskChunk}
 use Rattle.task_steps.specs.declared.task_chunk.Progress.{Progress}
@@ -66,6 +70,7 @@ use Rattle.task_steps.specs.Lemmas.Feasible.{and_true}
 use Rattle.task_steps.specs.Lemmas.Histories.{same_view}
 use Rattle.task_steps.specs.Lemmas.NameCounts.{eq_from_test}
 use Rattle.task_steps.proofs.Truths.{law, same_status}
+use Rattle.task_steps.specs.declared.local.Task.TheVariants.{Nodes, Cuts}
 
 -- ---- whether a Halt stands, entry by entry
 
@@ -155,7 +160,7 @@ end_quiet Low = refl
 end_quiet High = refl
 end_quiet Neither = refl
 
-splitting_quiet : (task : Task) (worker : Worker) (found : List Entry) (cutoff : ℤ) (work col : ℕ)
+splitting_quiet : (task : NodeTask) (worker : Worker) (found : List Entry) (cutoff : ℤ) (work col : ℕ)
     (at : ℤ) (keep : Keep) (bound : ℤ) → has_halt found ≡ false
     → IsQuiet (splitting_chunk task worker found cutoff work col at keep bound)
 splitting_quiet task worker found cutoff work col at keep bound h =
@@ -165,7 +170,7 @@ splitting_quiet task worker found cutoff work col at keep bound h =
     (no_halt-append found (split ∷ []) h refl)
     (end_quiet keep)
 
-after_point_quiet : (m : ModelParts) (task : Task) (worker : Worker) (p : Progress) (a : Ascent)
+after_point_quiet : (m : ModelParts) (task : NodeTask) (worker : Worker) (p : Progress) (a : Ascent)
     (cutoff : ℤ) (found : List Entry) → has_halt found ≡ false
     → IsQuiet (after_point m task worker p a cutoff found)
 after_point_quiet m task worker p a cutoff found h =
@@ -177,14 +182,14 @@ after_point_quiet m task worker p a cutoff found h =
     (λ t. splitting_quiet task worker found cutoff p.work col mid
     (kept_child task.nodes (int_at a.point col) mid) a.bound h)
 
-on_point_quiet : (m : ModelParts) (task : Task) (worker : Worker) (p : Progress) (a : Ascent)
+on_point_quiet : (m : ModelParts) (task : NodeTask) (worker : Worker) (p : Progress) (a : Ascent)
     (found : Bool) → IsQuiet (on_point m task worker p a found)
 on_point_quiet m task worker p a true =
     after_point_quiet m task worker p a (value_at m a.point)
     (Found (value_at m a.point) a.point ∷ []) refl
 on_point_quiet m task worker p a false = after_point_quiet m task worker p a task.cutoff [] refl
 
-passes_quiet : (m : ModelParts) (cuts : List Row) (task : Task) (worker : Worker) (p : Propagation) (o : Ended)
+passes_quiet : (m : ModelParts) (cuts : List Row) (task : NodeTask) (worker : Worker) (p : Propagation) (o : Ended)
     → IsQuiet (after_passes m cuts task worker p o)
 passes_quiet m cuts task worker p ended.Open =
     let a = ascent_of m cuts p.sides in
@@ -194,12 +199,24 @@ passes_quiet m cuts task worker p (ended.Conflict row) =
 passes_quiet m cuts task worker p (ended.Empty col) =
     closing_quiet task.node worker.splits [] (progress_of p 0) (Empty col) refl
 
+cuts_quiet : (new : List NewCut) (tail : List Entry) → has_halt tail ≡ false
+    → has_halt (entries_of_cuts new ++ tail) ≡ false
+cuts_quiet [] tail none = none
+cuts_quiet (cut ∷ new) tail none = cuts_quiet new tail none
+
+cuts_end_quiet : (o : Option CutTask) → has_halt (end_of_cuts o) ≡ false
+cuts_end_quiet None = refl
+cuts_end_quiet (Some task) = refl
+
 local_quiet : (m : ModelParts) (l : Local) (o : Option Task)
     → has_halt (chunk_of m l o).gives.entries ≡ false
 local_quiet m l None = refl
-local_quiet m l (Some task) =
+local_quiet m l (Some (Nodes task)) =
     let p = propagation_of m.rows l.cuts task.bounds in
     passes_quiet m l.cuts task (record { slot = l.slot; splits = l.splits }) p p.run.outcome
+local_quiet m l (Some (Cuts task)) =
+    let new = new_cuts m l.cuts in
+    cuts_quiet new (end_of_cuts (cuts_after task.chunks new)) (cuts_end_quiet (cuts_after task.chunks new))
 
 take_quiet : (m : ModelParts) (v : View) (l : Local) (pick : Pick)
     → has_halt (entries_of (begin_by m v l pick).does) ≡ false
@@ -296,7 +313,7 @@ end_picked : (m : ModelParts) (v : View) (l : Local) (pick : Pick) → pick_of v
 end_picked m v l Over is does = is
 end_picked m v l (Node node) is does = absurd (take_no_end (Start node ∷ []) does)
 end_picked m v l Nothing is does = absurd (idle_no_end does)
-end_picked m v l CutLoop is does = absurd (idle_no_end does)
+end_picked m v l CutLoop is does = absurd (take_no_end (CutStart ∷ []) does)
 end_picked m v l (Heuristic node) is does = absurd (idle_no_end does)
 
 end_over : (m : ModelParts) (v : View) (l : Local) → (begin_of m v l).does ≡ End

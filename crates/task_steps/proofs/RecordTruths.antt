@@ -9,9 +9,9 @@ use Rattle.ip_core.specs.declared.row.Row.{Row}
 use Rattle.leaf_truth.specs.Leaves.{IsValidLeaf}
 use Rattle.leaf_truth.proofs.OverMore.{leaf_holds_over_more}
 use Rattle.work_stamp.specs.Histories.{FollowInTurn, keyed_entry, under}
-use Rattle.work_stamp.specs.Taskers.{Standing, standing, view_of as rules_view}
+use Rattle.work_stamp.specs.Taskers.{AfterBegin, Standing, standing, view_of as rules_view}
 use Rattle.work_stamp.specs.declared.entry.Entry.{Entry}
-use Rattle.work_stamp.specs.declared.entry.Entry.TheVariants.{Start, Found, Closed, Halt}
+use Rattle.work_stamp.specs.declared.entry.Entry.TheVariants.{Start, CutStart, Cut, Done, Found, Closed, Halt}
 use Rattle.work_stamp.specs.declared.key.Key.{Key}
 use Rattle.work_stamp.specs.declared.stamped.KeyedEntry.{KeyedEntry}
 use Rattle.stamp_machine.specs.Limits.{AreLimits}
@@ -34,12 +34,17 @@ use Rattle.task_steps.specs.Claims.{Claim, HasHeld, HasHold, IsAt, IsAtTask, IsO
 use Rattle.task_steps.specs.Fits.{FitsLocal, FitsTask, FitsView}
 use Rattle.task_steps.specs.Lawful.{search_law}
 use Rattle.task_steps.specs.Records.{HasRecord, IsTrueRecord, RecordsHold}
-use Rattle.task_steps.specs.Rules.{chunk_of, rules}
+use Rattle.task_steps.specs.Rules.{begin_of, chunk_of, rules}
+use Rattle.task_steps.specs.CutTasks.{cuts_after, end_of_cuts, entries_of_cuts, new_cuts}
 use Rattle.task_steps.specs.Tasks.{node_chunk}
+use Rattle.task_steps.specs.declared.local.CutTask.{CutTask}
+use Rattle.cut_derive.specs.declared.new_cut.NewCut.{NewCut}
+use Rattle.ip_core.specs.declared.derivation.Derivation.{Derivation}
 use Rattle.task_steps.specs.declared.local.Local.{Local}
+use Rattle.task_steps.specs.declared.local.NodeTask.{NodeTask}
 use Rattle.task_steps.specs.declared.local.Task.{Task}
 use Rattle.task_steps.specs.declared.task_chunk.TaskChunk.{TaskChunk}
-use Rattle.task_steps.specs.Lemmas.Beginning.{taken_is}
+use Rattle.task_steps.specs.Lemmas.Beginning.{IsTaken, OfCuts, OfNode, taken_is}
 use Rattle.task_steps.specs.Lemmas.Fitting.{held_known}
 use Rattle.task_steps.specs.Lemmas.Histories.{view_with, with_settings}
 use Rattle.task_steps.specs.Lemmas.TaskChunks.{worker_of}
@@ -47,12 +52,13 @@ use Rattle.task_steps.specs.Lemmas.TaskCuts.{cut_rows}
 use Rattle.task_steps.proofs.ChunkRecords.{AreOfTask, IsNotAbove, IsOfTask, chunk_records}
 use Rattle.task_steps.proofs.LaterViews.{IsLater, later_view, up_to, view_append}
 use Rattle.task_steps.proofs.Truths.{history_is_read, law}
+use Rattle.task_steps.specs.declared.local.Task.TheVariants.{Nodes, Cuts}
 
 -- ---- what the history holds for a task
 
 -- a view that holds the task's node with the task's box, whose cutoff is at most the task's, and whose
 -- first cuts are these
-record IsHolding (m : ModelParts) (v : View) (cuts : List Row) (task : Task) : Type 0 where
+record IsHolding (m : ModelParts) (v : View) (cuts : List Row) (task : NodeTask) : Type 0 where
   held : IsHeld v task.node
   known : is_known v task.node ≡ true
   box : box_of m.root v.branches task.node ≡ task.bounds
@@ -68,7 +74,7 @@ known_with : (v : View) (s : SearchSettings) → AreKnown (with_settings v s) �
 known_with v s known = record { opened = known.opened; held = known.held }
 
 -- so does a view that holds for a claim, where a task stands at the claim
-claim_holding : (m : ModelParts) (settings : SearchSettings) (v w : View) (c : Claim) (task : Task)
+claim_holding : (m : ModelParts) (settings : SearchSettings) (v w : View) (c : Claim) (task : NodeTask)
     → w ≡ with_settings v settings → IsOn c task → AreKnown w → HasHold m w c.hold
     → w.cutoff ≤ℤ c.cutoff → HasCutsOf c.cuts w.cuts → IsHolding m v c.cuts task
 claim_holding m settings v w c task same on known hold low front =
@@ -88,9 +94,9 @@ claim_holding m settings v w c task same on known hold low front =
 
 -- and so does the view of a history, where slots agree with it
 slot_holding : (m : ModelParts) (settings : SearchSettings) (history : List KeyedEntry)
-    (slots : List (Option (Standing Local))) (slot : ℕ) (l : Local) (task : Task)
+    (slots : List (Option (Standing Local))) (slot : ℕ) (l : Local) (task : NodeTask)
     → Agrees m settings history slots → get_or slots slot None ≡ standing l []
-    → l.task ≡ Some task → IsHolding m (view_of m splits_alone history) l.cuts task
+    → l.task ≡ Some (Nodes task) → IsHolding m (view_of m splits_alone history) l.cuts task
 slot_holding m settings history slots slot l task agrees there works =
     let c = agrees.claims slot in
     let stands : IsAt m slot c l = subst (Stands m slot c) there (agrees.ready slot) in
@@ -117,6 +123,40 @@ start_closes_none : (node place name : ℕ) → at (Start node ∷ []) place ≡
 start_closes_none node zero name there = start_is_not_closed node name there
 start_closes_none node (suc place) name there = none_is_no_some (Closed name) there
 
+cuts_are_not_closed : (name : ℕ) → Some CutStart ≡ Some (Closed name) → ⊥
+cuts_are_not_closed name same = cc
+
+cut_is_not_closed : (derivation : Derivation) (name : ℕ)
+    → Some (Cut derivation) ≡ Some (Closed name) → ⊥
+cut_is_not_closed derivation name same = cc
+
+done_is_not_closed : (name : ℕ) → Some Done ≡ Some (Closed name) → ⊥
+done_is_not_closed name same = cc
+
+cuts_close_none : (new : List NewCut) (tail : List Entry) (place name : ℕ)
+    → ((later : ℕ) → at tail later ≡ Some (Closed name) → ⊥)
+    → at (entries_of_cuts new ++ tail) place ≡ Some (Closed name) → ⊥
+cuts_close_none [] tail place name none there = none place there
+cuts_close_none (cut ∷ new) tail zero name none there =
+    cut_is_not_closed cut.derivation name there
+cuts_close_none (cut ∷ new) tail (suc place) name none there =
+    cuts_close_none new tail place name none there
+
+end_closes_none : (o : Option CutTask) (place name : ℕ)
+    → at (end_of_cuts o) place ≡ Some (Closed name) → ⊥
+end_closes_none None zero name there = done_is_not_closed name there
+end_closes_none None (suc place) name there = none_is_no_some (Closed name) there
+end_closes_none (Some task) place name there = none_is_no_some (Closed name) there
+
+taken_closes_none : (m : ModelParts) (v : View) (l : Local) (es : List Entry)
+    (after : AfterBegin Local) (place name : ℕ) → IsTaken m v l es after
+    → at es place ≡ Some (Closed name) → ⊥
+taken_closes_none m v l _ _ place name (OfNode node is) there =
+    start_closes_none node place name there
+taken_closes_none m v l _ _ zero name (OfCuts is) there = cuts_are_not_closed name there
+taken_closes_none m v l _ _ (suc place) name (OfCuts is) there =
+    none_is_no_some (Closed name) there
+
 module _ (m : ModelParts) (settings : SearchSettings) (valid : IsModel m) (paired : IsPaired m.root)
     (limits : Limits) (ranges : AreLimits limits) where
   abbrev entries : List KeyedEntry
@@ -130,7 +170,7 @@ module _ (m : ModelParts) (settings : SearchSettings) (valid : IsModel m) (paire
   last_view = view_of m splits_alone entries
 
   -- the chunk of a slot on its task
-  abbrev chunk : Local → Task → TaskChunk
+  abbrev chunk : Local → NodeTask → TaskChunk
   chunk l task = node_chunk m l.cuts (worker_of l) task
 
   -- where such a chunk joined
@@ -139,8 +179,8 @@ module _ (m : ModelParts) (settings : SearchSettings) (valid : IsModel m) (paire
       items key l
 
   -- what its records say
-  chunk_says : (items : List Record) (key : Key) (l : Local) (task : Task) → IsJoined items key l
-      → l.task ≡ Some task → AreOfTask m l.cuts task (chunk l task)
+  chunk_says : (items : List Record) (key : Key) (l : Local) (task : NodeTask) → IsJoined items key l
+      → l.task ≡ Some (Nodes task) → AreOfTask m l.cuts task (chunk l task)
   chunk_says items key l task joined works =
       chunk_records m l.cuts (worker_of l) task valid
       (cut_rows m l.cuts valid joined.stood.fits.cuts) (subst (FitsTask m) works joined.stood.fits.task)
@@ -171,8 +211,8 @@ module _ (m : ModelParts) (settings : SearchSettings) (valid : IsModel m) (paire
 
   -- ---- each record is true
 
-  task_record : (slot : ℕ) (item : Record) (key : Key) (l : Local) (task : Task) (place : ℕ)
-      → key.slot ≡ slot → IsJoined (records slot) key l → l.task ≡ Some task
+  task_record : (slot : ℕ) (item : Record) (key : Key) (l : Local) (task : NodeTask) (place : ℕ)
+      → key.slot ≡ slot → IsJoined (records slot) key l → l.task ≡ Some (Nodes task)
       → at (chunk_of m l l.task).gives.records place ≡ Some item → IsTrueRecord m entries slot item
   task_record slot item key l task place own joined works there =
       let stood = joined.stood in
@@ -216,6 +256,17 @@ module _ (m : ModelParts) (settings : SearchSettings) (valid : IsModel m) (paire
         closed = record { place = closed.0; key = key; own = own; there = closed.1 };
       }
 
+  -- a task that looks for cuts has no records
+  kind_record : (slot : ℕ) (item : Record) (key : Key) (l : Local) (task : Task) (place : ℕ)
+      → key.slot ≡ slot → IsJoined (records slot) key l → l.task ≡ Some task
+      → at (chunk_of m l l.task).gives.records place ≡ Some item → IsTrueRecord m entries slot item
+  kind_record slot item key l (Nodes task) place own joined works there =
+      task_record slot item key l task place own joined works there
+  kind_record slot item key l (Cuts task) place own joined works there =
+      absurd (none_is_no_some item
+      (subst (λ (o : Option Task). at (chunk_of m l o).gives.records place ≡ Some item) works
+      there))
+
   true_record : (slot place : ℕ) (item : Record) → at (records slot) place ≡ Some item
       → IsTrueRecord m entries slot item
   true_record slot place item there =
@@ -223,13 +274,13 @@ module _ (m : ModelParts) (settings : SearchSettings) (valid : IsModel m) (paire
       (MayFollowIn m settings) (Agrees m settings) (search_law m settings valid paired) limits
       ranges slot place item there in
       let task = some_task source.local.task source.chunk.busy in
-      task_record slot item source.key source.local task.0 source.place source.own source.chunk
+      kind_record slot item source.key source.local task.0 source.place source.own source.chunk
       task.1 source.there
 
   -- ---- each node that is closed has a record
 
-  closed_in_chunk : (key : Key) (name : ℕ) (l : Local) (task : Task) (place : ℕ)
-      → IsJoined (records key.slot) key l → l.task ≡ Some task
+  closed_in_chunk : (key : Key) (name : ℕ) (l : Local) (task : NodeTask) (place : ℕ)
+      → IsJoined (records key.slot) key l → l.task ≡ Some (Nodes task)
       → at (chunk_of m l l.task).gives.entries place ≡ Some (Closed name)
       → HasRecord (records key.slot) name
   closed_in_chunk key name l task place joined works there =
@@ -243,18 +294,32 @@ module _ (m : ModelParts) (settings : SearchSettings) (valid : IsModel m) (paire
       (sym works) has.there) in
       record { place = stands.0; item = has.item; there = stands.1; named = has.named }
 
+  -- and closes no node
+  closed_by_kind : (key : Key) (name : ℕ) (l : Local) (task : Task) (place : ℕ)
+      → IsJoined (records key.slot) key l → l.task ≡ Some task
+      → at (chunk_of m l l.task).gives.entries place ≡ Some (Closed name)
+      → HasRecord (records key.slot) name
+  closed_by_kind key name l (Nodes task) place joined works there =
+      closed_in_chunk key name l task place joined works there
+  closed_by_kind key name l (Cuts task) place joined works there =
+      let new = new_cuts m l.cuts in
+      let o = cuts_after task.chunks new in
+      absurd (cuts_close_none new (end_of_cuts o) place name
+      (λ later here. end_closes_none o later name here)
+      (subst (λ (o : Option Task). at (chunk_of m l o).gives.entries place ≡ Some (Closed name))
+      works there))
+
   by_origin : (key : Key) (name : ℕ) → HasOrigin (rules m settings) (FitsLocal m)
       (Agrees m settings) entries (records key.slot) (keyed_entry key (Closed name))
       → HasRecord (records key.slot) name
   by_origin key name (OfHalt same) = absurd (halt_is_not_closed name same)
   by_origin key name (OfTake take) =
-      let taken = taken_is m (rules_view (rules m settings) take.stood.front) take.local take.takes
-      take.does in
-      absurd (start_closes_none taken.node take.place name
-      (subst (λ (es : List Entry). at es take.place ≡ Some (Closed name)) taken.entries take.there))
+      let v = rules_view (rules m settings) take.stood.front in
+      absurd (taken_closes_none m v take.local take.takes (begin_of m v take.local) take.place name
+      (taken_is m v take.local take.takes take.does) take.there)
   by_origin key name (OfChunk of_chunk) =
       let task = some_task of_chunk.local.task of_chunk.chunk.busy in
-      closed_in_chunk key name of_chunk.local task.0 of_chunk.place of_chunk.chunk task.1
+      closed_by_kind key name of_chunk.local task.0 of_chunk.place of_chunk.chunk task.1
       of_chunk.there
 
   closed_node : (place name : ℕ) (key : Key)

@@ -11,8 +11,9 @@ use Rattle.ip_core.specs.declared.row_ref.RowRef.TheVariants.{Model}
 use Rattle.leaf_truth.specs.Laws.{leaf_of}
 use Rattle.work_stamp.specs.declared.entry.Entry.TheVariants.{Found, Split, Closed, Done}
 use Rattle.task_steps.specs.Tasks.{child_name, next_ordinal, node_chunk}
-use Rattle.task_steps.specs.declared.local.Task.{Task}
+use Rattle.task_steps.specs.declared.local.NodeTask.{NodeTask}
 use Rattle.task_steps.specs.declared.task_chunk.Worker.{Worker}
+use Rattle.task_steps.specs.declared.local.Task.TheVariants.{Nodes, Cuts}
 
 -- a closed node with the tightenings of its box, and what then closes it
 abbrev pub record_of : ℕ → List Tighten → Closing → Record
@@ -23,7 +24,7 @@ abbrev worker : ℕ → Worker
 worker splits = record { slot = 0; splits = splits }
 
 -- a task on the node of a name and a box, with these many nodes begun
-abbrev task : ℕ → Sides → ℤ → ℕ → Task
+abbrev task : ℕ → Sides → ℤ → ℕ → NodeTask
 task node s cutoff nodes = record { node = node; bounds = s; cutoff = cutoff; nodes = nodes }
 
 -- the least of x in 0 to 1, with no rows
@@ -86,8 +87,8 @@ pub first_split : node_chunk odd [] (worker 0) (task 0 units (pos 1) 1) ≡ reco
   entries = Split 0 0 (pos 0) 4 0 (pos 0) ∷ [];
   records = [];
   work = 217;
-  task = Some (task 4
-      (record { lows = pos 0 ∷ pos 0 ∷ pos 0 ∷ []; highs = pos 0 ∷ pos 1 ∷ pos 1 ∷ [] }) (pos 1) 2);
+  task = Some (Nodes (task 4
+      (record { lows = pos 0 ∷ pos 0 ∷ pos 0 ∷ []; highs = pos 0 ∷ pos 1 ∷ pos 1 ∷ [] }) (pos 1) 2));
   splits = 1;
 }
 unfolding Rattle.row_propagate.specs.Passes.after_passes Rattle.dual_ascent.specs.Ascents.ascent

@@ -1,13 +1,16 @@
 -- What each slot may count on, whatever the others do, and when its pending entries are due.
-use Rattle.std.specs.Prelude.{ℕ, ◌≡◌, ◌≤◌, ◌<◌, ◌+◌, ◌^◌, Bool, true, false, nat_eq, if◌then◌else◌, ℤ, ◌≤ℤ◌, List, [], ◌∷◌, Option, Some, None}
+use Rattle.std.specs.Prelude.{ℕ, ◌≡◌, ◌≤◌, ◌<◌, ◌+◌, ◌^◌, Bool, true, false, nat_eq, if◌then◌else◌, ℤ, ◌≤ℤ◌, List, [], ◌∷◌, Option, Some, None, length, Ok}
 use Rattle.ip_core.specs.Sides.{Sides}
 use Rattle.ip_core.specs.declared.model.ModelParts.{ModelParts}
 use Rattle.ip_core.specs.declared.row.Row.{Row}
+use Rattle.ip_core.specs.declared.derivation.Derivation.{Derivation}
 use Rattle.search_truth.specs.Boxes.{IsClosed, low_child, high_child}
+use Rattle.cut_derive.specs.Derivations.{derived_row}
+use Rattle.cut_derive.specs.declared.limits.TheConstants.{MAX_CUTS}
 use Rattle.node_pool.specs.Branchings.{box_of}
 use Rattle.node_pool.specs.Follows.{IsHeld, IsSplitPoint, IsValued}
 use Rattle.node_pool.specs.Laws.{HasCutsOf}
-use Rattle.node_pool.specs.Views.{View, is_known}
+use Rattle.node_pool.specs.Views.{View, is_known, with_row}
 use Rattle.node_pool.specs.declared.node.OpenNode.{OpenNode}
 use Rattle.work_stamp.specs.declared.entry.Entry.{Entry}
 use Rattle.work_stamp.specs.declared.entry.Entry.TheVariants.{Start, CutStart, HeurStart, Done, Found, Cut, Split, Closed, Halt}
@@ -19,7 +22,9 @@ use Rattle.task_steps.specs.declared.answer.Best.{Best}
 use Rattle.task_steps.specs.declared.keep.Keep.{Keep}
 use Rattle.task_steps.specs.declared.keep.Keep.TheVariants.{Low, High, Neither}
 use Rattle.task_steps.specs.declared.local.Local.{Local}
+use Rattle.task_steps.specs.declared.local.NodeTask.{NodeTask}
 use Rattle.task_steps.specs.declared.local.Task.{Task}
+use Rattle.task_steps.specs.declared.local.Task.TheVariants.{Nodes, Cuts}
 
 -- a node with its box
 pub record Held : Type 0 where
@@ -27,12 +32,13 @@ pub record Held : Type 0 where
   pub bounds : Sides
 
 -- A slot's claim on the history: the node that it holds, a value that is not below the cutoff, how
--- many of its splits have joined, and cuts that stand before all others.
+-- many of its splits have joined, cuts that stand before all others, and whether it adds the next.
 pub record Claim : Type 0 where
   pub hold : Option Held
   pub cutoff : ℤ
   pub splits : ℕ
   pub cuts : List Row
+  pub adds : Bool
 
 -- the claims of all slots, where one of them is replaced
 abbrev pub claims_with : (ℕ → Claim) → ℕ → Claim → ℕ → Claim
@@ -49,12 +55,15 @@ HasHold m v None = Unit {0}
 HasHold m v (Some node) = HasHeld m v node
 
 -- what a history of this view owes a slot for its claim: its node stays held, the cutoff only
--- falls, its cuts stay in front, and the names of its further splits stay new
+-- falls, its cuts stay in front, and the names of its further splits stay new. Where it adds cuts, it
+-- has all that there are, and a task for cuts has begun.
 pub record IsOwed (m : ModelParts) (v : View) (slot : ℕ) (c : Claim) : Type 0 where
   pub held : HasHold m v c.hold
   pub cutoff : v.cutoff ≤ℤ c.cutoff
   pub few : c.splits ≤ v.entries
   pub cuts : HasCutsOf c.cuts v.cuts
+  pub alone : c.adds ≡ true → v.cuts ≡ c.cuts
+  pub begun : c.adds ≡ true → 1 ≤ v.cut_starts
   pub first_new : (k : ℕ) → c.splits < k → k ≤ 2 ^ 37
       → is_known v (child_name slot k) ≡ false
   pub second_new : (k : ℕ) → c.splits < k → k ≤ 2 ^ 37
@@ -78,7 +87,7 @@ abbrev pub count_left : View → ℕ → ℕ
 count_left v name = count_open name v.open_nodes + count_name name v.held_nodes
 
 -- a history of this view and this best point is true of the model and meets all claims: no two
--- nodes that are left have one name, and no two slots hold a node of one name
+-- nodes that are left have one name, no two slots hold a node of one name, and no two add cuts
 pub record Meets (m : ModelParts) (v : View) (best : Option Best) (claims : ℕ → Claim) : Type 0
   where
     pub fits : FitsView m v
@@ -87,6 +96,7 @@ pub record Meets (m : ModelParts) (v : View) (best : Option Best) (claims : ℕ 
     pub owed : (slot : ℕ) → IsOwed m v slot (claims slot)
     pub apart : (i j : ℕ) (a b : Held) → (claims i).hold ≡ Some a → (claims j).hold ≡ Some b
         → a.name ≡ b.name → i ≡ j
+    pub adding : (i j : ℕ) → (claims i).adds ≡ true → (claims j).adds ≡ true → i ≡ j
 
 -- the children of a node that is split
 abbrev pub low_held : Held → ℕ → ℤ → ℕ → Held
@@ -107,20 +117,21 @@ hold_after_split None col at first keep = None
 hold_after_split (Some node) col at first keep = child_held node col at first keep
 
 -- a slot's claim after one of its pending entries has joined
-abbrev pub claim_after : Claim → Entry → Claim
-claim_after c (Start node) = c
-claim_after c CutStart = c
-claim_after c (HeurStart node) = c
-claim_after c Done = c
-claim_after c (Found value point) = record c { cutoff = value }
-claim_after c (Cut derivation) = c
-claim_after c (Split node col at first keep bound) =
+abbrev pub claim_after : ModelParts → Claim → Entry → Claim
+claim_after m c (Start node) = c
+claim_after m c CutStart = c
+claim_after m c (HeurStart node) = c
+claim_after m c Done = record c { adds = false }
+claim_after m c (Found value point) = record c { cutoff = value }
+claim_after m c (Cut derivation) =
+    record c { cuts = with_row c.cuts (derived_row m c.cuts derivation) }
+claim_after m c (Split node col at first keep bound) =
     record c {
       hold = hold_after_split c.hold col at first (keep_of keep);
       splits = next_ordinal c.splits;
     }
-claim_after c (Closed node) = record c { hold = None }
-claim_after c Halt = c
+claim_after m c (Closed node) = record c { hold = None }
+claim_after m c Halt = c
 
 -- the node that a claim holds, with this name
 pub record Holds (c : Claim) (name : ℕ) : Type 0 where
@@ -141,6 +152,13 @@ pub record IsSplitNow (m : ModelParts) (slot : ℕ) (c : Claim) (name col : ℕ)
   pub few_slots : slot < 64
   pub named : first ≡ child_name slot (next_ordinal c.splits)
 
+-- the slot adds cuts, there are fewer than 512, and the derivation gives a row from them
+pub record IsCutNow (m : ModelParts) (c : Claim) (derivation : Derivation) : Type 0 where
+  pub adds : c.adds ≡ true
+  pub few : length c.cuts < MAX_CUTS
+  pub row : Row
+  pub derived : derived_row m c.cuts derivation ≡ Ok row
+
 -- why a pending entry may join, whatever others have published: only what a chunk gives can wait
 abbrev pub IsDue : ModelParts → ℕ → Claim → Entry → Type 0
 IsDue m slot c (Start node) = ⊥
@@ -148,23 +166,29 @@ IsDue m slot c CutStart = ⊥
 IsDue m slot c (HeurStart node) = ⊥
 IsDue m slot c Done = Unit {0}
 IsDue m slot c (Found value point) = IsValued m value point
-IsDue m slot c (Cut derivation) = ⊥
+IsDue m slot c (Cut derivation) = IsCutNow m c derivation
 IsDue m slot c (Split node col at first keep bound) = IsSplitNow m slot c node col at first keep
 IsDue m slot c (Closed node) = IsDone m c node
 IsDue m slot c Halt = ⊥
 
 -- the node that a claim holds is that of the task, and so is its cutoff
-pub record IsOn (c : Claim) (task : Task) : Type 0 where
+pub record IsOn (c : Claim) (task : NodeTask) : Type 0 where
   pub node : Held
   pub is : c.hold ≡ Some node
   pub named : node.name ≡ task.node
   pub boxed : node.bounds ≡ task.bounds
   pub cutoff : c.cutoff ≡ task.cutoff
 
+-- nothing is held, and the slot adds cuts
+pub record IsAdding (c : Claim) : Type 0 where
+  pub free : c.hold ≡ None
+  pub adds : c.adds ≡ true
+
 -- between tasks nothing is held
 abbrev pub IsAtTask : Claim → Option Task → Type 0
 IsAtTask c None = c.hold ≡ None
-IsAtTask c (Some task) = IsOn c task
+IsAtTask c (Some (Nodes task)) = IsOn c task
+IsAtTask c (Some (Cuts task)) = IsAdding c
 
 -- a slot with nothing pending stands at its claim
 pub record IsAt (m : ModelParts) (slot : ℕ) (c : Claim) (l : Local) : Type 0 where
@@ -178,4 +202,4 @@ pub record IsAt (m : ModelParts) (slot : ℕ) (c : Claim) (l : Local) : Type 0 w
 -- stands at its claim
 abbrev pub IsReady : ModelParts → ℕ → Claim → List Entry → Local → Type 0
 IsReady m slot c [] l = IsAt m slot c l
-IsReady m slot c (e ∷ es) l = IsDue m slot c e × IsReady m slot (claim_after c e) es l
+IsReady m slot c (e ∷ es) l = IsDue m slot c e × IsReady m slot (claim_after m c e) es l

@@ -11,8 +11,11 @@ use Rattle.node_pool.specs.Branchings.{box_of}
 use Rattle.node_pool.specs.Laws.{AreKnown}
 use Rattle.node_pool.specs.Views.{View, is_known}
 use Rattle.task_steps.specs.declared.local.Local.{Local}
+use Rattle.task_steps.specs.declared.local.NodeTask.{NodeTask}
 use Rattle.task_steps.specs.declared.local.Task.{Task}
 use Rattle.task_steps.specs.declared.task_chunk.Worker.{Worker}
+use Rattle.task_steps.specs.declared.local.CutTask.{CutTask}
+use Rattle.task_steps.specs.declared.local.Task.TheVariants.{Nodes, Cuts}
 
 -- both ends of each column lie within the limit of bounds
 pub record IsSmall (s : Sides) : Type 0 where
@@ -20,7 +23,7 @@ pub record IsSmall (s : Sides) : Type 0 where
   pub highs : (j : ℕ) → unsigned_abs (int_at s.highs j) ≤ 2 ^ 31
 
 -- a task whose box lies in the root box, at one of its eight nodes; its cutoff is at most 2^51
-pub record IsTask (m : ModelParts) (task : Task) : Type 0 where
+pub record IsTask (m : ModelParts) (task : NodeTask) : Type 0 where
   pub word : task.node < 2 ^ 64
   pub within : IsWithin m.root task.bounds
   pub paired : IsPaired task.bounds
@@ -38,10 +41,15 @@ pub record AreFewDerived (m : ModelParts) (cuts : List Row) : Type 0 where
   pub derived : AreDerived m cuts
   pub few : length cuts ≤ MAX_CUTS
 
--- the same of a task, with nothing to say where there is none
+-- one of the eight chunks of a task that looks for cuts
+pub record IsCutTask (task : CutTask) : Type 0 where
+  pub few : task.chunks ≤ 8
+
+-- a task that fits, with nothing to say where there is none
 abbrev pub FitsTask : ModelParts → Option Task → Type 0
 FitsTask m None = Unit {0}
-FitsTask m (Some task) = IsTask m task
+FitsTask m (Some (Nodes task)) = IsTask m task
+FitsTask m (Some (Cuts task)) = IsCutTask task
 
 -- a local whose cuts and task fit
 pub record FitsLocal (m : ModelParts) (l : Local) : Type 0 where

@@ -13,6 +13,8 @@ pub mod NoColumns
 pub mod Working
 pub mod Counts
 pub mod ChunkWork
+pub mod CutWords
+pub mod CutChunks
 pub mod Calls
 pub mod Beginning
 pub mod NameCounts

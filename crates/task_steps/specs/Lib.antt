@@ -3,6 +3,7 @@ pub mod Points
 pub mod Keeps
 pub mod Fits
 pub mod Tasks
+pub mod CutTasks
 pub mod Rules
 pub mod Sound
 pub mod Answers

@@ -1,5 +1,5 @@
--- The search with bounds as a system of tasks.
-use Rattle.std.specs.Prelude.{ℕ, List, [], ◌∷◌, Option, Some, None, is_none}
+-- The search with bounds and cuts as a system of tasks.
+use Rattle.std.specs.Prelude.{ℕ, List, [], ◌∷◌, ◌++◌, Option, Some, None, is_none}
 use Rattle.ip_core.specs.declared.model.ModelParts.{ModelParts}
 use Rattle.node_pool.specs.Branchings.{box_of}
 use Rattle.node_pool.specs.Picks.{pick_of}
@@ -8,35 +8,47 @@ use Rattle.node_pool.specs.declared.pick.Pick.{Pick}
 use Rattle.node_pool.specs.declared.pick.Pick.TheVariants.{CutLoop, Heuristic, Node, Nothing, Over}
 use Rattle.node_pool.specs.declared.settings.SearchSettings.{SearchSettings}
 use Rattle.work_stamp.specs.Taskers.{AfterBegin, Rules, AfterChunk, view_of}
-use Rattle.work_stamp.specs.declared.entry.Entry.TheVariants.{Start}
+use Rattle.work_stamp.specs.declared.entry.Entry.TheVariants.{CutStart, Start}
 use Rattle.work_stamp.specs.declared.stamped.KeyedEntry.{KeyedEntry}
 use Rattle.work_stamp.specs.declared.task.Begin.TheVariants.{Take, Idle, End}
+use Rattle.task_steps.specs.CutTasks.{cut_chunk, cut_task}
 use Rattle.task_steps.specs.Tasks.{node_chunk}
+use Rattle.task_steps.specs.declared.cut_chunk.CutChunk.{CutChunk}
 use Rattle.task_steps.specs.declared.local.Local.{Local}
+use Rattle.task_steps.specs.declared.local.NodeTask.{NodeTask}
 use Rattle.task_steps.specs.declared.local.Task.{Task}
 use Rattle.task_steps.specs.declared.task_chunk.TaskChunk.{TaskChunk}
+use Rattle.task_steps.specs.declared.local.Task.TheVariants.{Nodes, Cuts}
 
 -- a slot that has split nothing, between tasks
 abbrev pub fresh_local : ℕ → Local
 fresh_local slot = record { slot = slot; splits = 0; cuts = []; task = None }
 
 -- a task on a node of the view, with the node's box and the cutoff of the view at its start
-abbrev pub task_on : ModelParts → View → ℕ → Task
+abbrev pub task_on : ModelParts → View → ℕ → NodeTask
 task_on m v node =
     record { node = node; bounds = box_of m.root v.branches node; cutoff = v.cutoff; nodes = 1 }
 
--- a slot that takes a node, with the cuts of the view
-abbrev pub local_on : ModelParts → View → Local → ℕ → Local
-local_on m v l node = record l { cuts = v.cuts; task = Some (task_on m v node) }
+-- a slot that takes a task, with the cuts of the view
+abbrev pub local_with : View → Local → Task → Local
+local_with v l task = record l { cuts = v.cuts; task = Some task }
 
--- what a slot does for its pick: it takes the node, waits where nothing is open, and is over where
--- the search is; a search by splits alone has no other pick
+abbrev pub local_on : ModelParts → View → Local → ℕ → Local
+local_on m v l node = local_with v l (Nodes (task_on m v node))
+
+-- the first chunk of a task that looks for cuts
+abbrev pub first_cuts : Task
+first_cuts = Cuts (record { chunks = 1 })
+
+-- what a slot does for its pick: it looks for cuts or takes the node, waits where nothing is open,
+-- and is over where the search is; a search without dives has no other pick
 abbrev pub begin_by : ModelParts → View → Local → Pick → AfterBegin Local
 begin_by m v l Over = record { does = End; local = l }
 begin_by m v l (Node node) =
     record { does = Take (Start node ∷ []); local = local_on m v l node }
 begin_by m v l Nothing = record { does = Idle; local = l }
-begin_by m v l CutLoop = record { does = Idle; local = l }
+begin_by m v l CutLoop =
+    record { does = Take (CutStart ∷ []); local = local_with v l first_cuts }
 begin_by m v l (Heuristic node) = record { does = Idle; local = l }
 
 -- what a slot between tasks does
@@ -50,12 +62,20 @@ after_chunk l chunk = record {
   local = record l { splits = chunk.splits; task = chunk.task };
 }
 
+-- what a chunk that looks for cuts leaves: its cuts stand behind those of the slot
+abbrev pub after_cut_chunk : Local → CutChunk → AfterChunk Local
+after_cut_chunk l chunk = record {
+  gives = record { entries = chunk.entries; records = []; work = chunk.work };
+  local = record l { cuts = l.cuts ++ chunk.cuts; task = cut_task chunk.task };
+}
+
 -- a chunk of the slot's task; without a task nothing happens
 abbrev pub chunk_of : ModelParts → Local → Option Task → AfterChunk Local
 chunk_of m l None =
     after_chunk l (record { entries = []; records = []; work = 0; task = None; splits = l.splits })
-chunk_of m l (Some task) =
+chunk_of m l (Some (Nodes task)) =
     after_chunk l (node_chunk m l.cuts (record { slot = l.slot; splits = l.splits }) task)
+chunk_of m l (Some (Cuts task)) = after_cut_chunk l (cut_chunk m l.cuts task.chunks)
 
 -- the definitions of the search
 abbrev pub rules : ModelParts → SearchSettings → Rules View Local

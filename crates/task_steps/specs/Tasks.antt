@@ -23,10 +23,12 @@ use Rattle.task_steps.specs.Keeps.{number_of}
 use Rattle.task_steps.specs.Points.{is_feasible_at}
 use Rattle.task_steps.specs.declared.keep.Keep.{Keep}
 use Rattle.task_steps.specs.declared.keep.Keep.TheVariants.{Low, High, Neither}
+use Rattle.task_steps.specs.declared.local.NodeTask.{NodeTask}
 use Rattle.task_steps.specs.declared.local.Task.{Task}
 use Rattle.task_steps.specs.declared.task_chunk.TaskChunk.{TaskChunk}
 use Rattle.task_steps.specs.declared.task_chunk.Progress.{Progress}
 use Rattle.task_steps.specs.declared.task_chunk.Worker.{Worker}
+use Rattle.task_steps.specs.declared.local.Task.TheVariants.{Nodes}
 
 -- the ordinal of a slot's next split: splits are counted from 1, and the count stays at 2^37 once
 -- it is there
@@ -53,21 +55,21 @@ abbrev pub kept_child : ℕ → ℤ → ℤ → Keep
 kept_child nodes value at = if nodes == 8 then Neither else (if int_le value at then Low else High)
 
 -- the task on the child that is kept: its box is the node's, cut by the split
-abbrev pub task_after : Task → ℕ → ℤ → ℕ → ℤ → Keep → Option Task
+abbrev pub task_after : NodeTask → ℕ → ℤ → ℕ → ℤ → Keep → Option Task
 task_after task col at first cutoff Low =
-    Some (record {
+    Some (Nodes (record {
       node = first;
       bounds = low_child task.bounds col at;
       cutoff = cutoff;
       nodes = task.nodes + 1;
-    })
+    }))
 task_after task col at first cutoff High =
-    Some (record {
+    Some (Nodes (record {
       node = first + 1;
       bounds = high_child task.bounds col at;
       cutoff = cutoff;
       nodes = task.nodes + 1;
-    })
+    }))
 task_after task col at first cutoff Neither = None
 
 -- a task that keeps no child has ended
@@ -76,7 +78,7 @@ end_entries Neither = Done ∷ []
 end_entries _ = []
 
 -- the node is split, and the task goes on with the child that it keeps
-abbrev pub splitting_chunk : Task → Worker → List Entry → ℤ → ℕ → ℕ → ℤ → Keep → ℤ → TaskChunk
+abbrev pub splitting_chunk : NodeTask → Worker → List Entry → ℤ → ℕ → ℕ → ℤ → Keep → ℤ → TaskChunk
 splitting_chunk task worker found cutoff work col at keep bound =
     let ordinal = next_ordinal worker.splits in
     let first = child_name worker.slot ordinal in
@@ -91,7 +93,7 @@ splitting_chunk task worker found cutoff work col at keep bound =
 
 -- after the point was tried: the node is closed where its bound is no longer below the cutoff, else
 -- split in the widest column of the box after the passes
-abbrev pub after_point : ModelParts → Task → Worker → Progress → Ascent → ℤ → List Entry
+abbrev pub after_point : ModelParts → NodeTask → Worker → Progress → Ascent → ℤ → List Entry
     → TaskChunk
 after_point m task worker p a cutoff found =
     let col = widest p.bounds in
@@ -109,7 +111,7 @@ is_found m cutoff a =
     int_lt a.bound cutoff && (is_feasible_at m a.point && int_lt (value_at m a.point) cutoff)
 
 -- a point that is found lowers the task's cutoff
-abbrev pub on_point : ModelParts → Task → Worker → Progress → Ascent → Bool → TaskChunk
+abbrev pub on_point : ModelParts → NodeTask → Worker → Progress → Ascent → Bool → TaskChunk
 on_point m task worker p a found =
     if found
     then after_point m task worker p a (value_at m a.point)
@@ -132,7 +134,7 @@ abbrev pub progress_of : Propagation → ℕ → Progress
 progress_of p work = record { bounds = p.sides; steps = p.steps; work = 1 + p.run.work + work }
 
 -- after the passes: a box that they closed has no ascent
-abbrev pub after_passes : ModelParts → List Row → Task → Worker → Propagation → Ended → TaskChunk
+abbrev pub after_passes : ModelParts → List Row → NodeTask → Worker → Propagation → Ended → TaskChunk
 after_passes m cuts task worker p ended.Open =
     on_point m task worker (progress_of p (ascent_of m cuts p.sides).work)
     (ascent_of m cuts p.sides)
@@ -143,7 +145,7 @@ after_passes m cuts task worker p (ended.Empty col) =
     closing_chunk task.node worker.splits [] (progress_of p 0) (Empty col)
 
 -- one chunk of a task, on its node, over the model's rows and cuts
-abbrev pub node_chunk : ModelParts → List Row → Worker → Task → TaskChunk
+abbrev pub node_chunk : ModelParts → List Row → Worker → NodeTask → TaskChunk
 node_chunk m cuts worker task =
     let p = propagation_of m.rows cuts task.bounds in
     after_passes m cuts task worker p p.run.outcome

@@ -6,7 +6,7 @@ ghost use Rattle.task_steps.specs.declared.keep.Keep.TheVariants.{Neither};
 
 use crate::column::{end_at, middle, widest};
 use crate::keep::Keep;
-use crate::local::Task;
+use crate::local::{NodeTask, Task};
 use crate::naming::{child_name, next_ordinal};
 use crate::task_chunk::{Progress, SplitChoice, TaskChunk, Worker};
 use dual_ascent::Ascent;
@@ -21,7 +21,7 @@ use work_stamp::Entry;
 pub fn after_point(
     alloc: Global,
     model: &Model,
-    task: &Task,
+    task: &NodeTask,
     worker: Worker,
     progress: Progress,
     ascent: &Ascent,
@@ -115,7 +115,7 @@ pub fn closing_chunk(
 /// The node is split, and the task goes on with the kept child.
 fn splitting_chunk(
     alloc: Global,
-    task: &Task,
+    task: &NodeTask,
     worker: Worker,
     found: List<Entry>,
     cutoff: i64,
@@ -154,7 +154,7 @@ fn splitting_chunk(
 /// The task on the child that is kept.
 fn task_after(
     alloc: Global,
-    task: &Task,
+    task: &NodeTask,
     cutoff: i64,
     first: u64,
     choice: SplitChoice,
@@ -172,12 +172,12 @@ fn task_after(
         Keep::Neither => return Ok(None),
     };
     let bounds = child_box(alloc, &task.bounds, change)?;
-    Ok(Some(Task {
+    Ok(Some(Task::Nodes(NodeTask {
         node,
         bounds,
         cutoff,
         nodes: task.nodes + 1,
-    }))
+    })))
 }
 
 /// The box of a child: the node's box with one end of one column changed.

@@ -1,4 +1,4 @@
-ghost use Rattle.std.specs.Prelude.{◌≡◌, IfOk};
+ghost use Rattle.std.specs.Prelude.{◌≡◌, ◌++◌, IfOk, OnOk};
 
 use ip_core::{List, OutOfMemory, Row};
 use std::alloc::Global;
@@ -21,4 +21,14 @@ fn copy_row(alloc: Global, row: &Row) -> Result<Row, OutOfMemory>
         terms: List::of(Vec::from_slice(alloc, row.terms.as_slice())?),
         least: row.least,
     })
+}
+
+/// Puts more rows behind rows.
+pub fn append_rows(rows: &mut List<Row>, more: List<Row>) -> Result<(), OutOfMemory>
+    ensures { OnOk result (rows.new ≡ rows.old ++ more) }
+{
+    for row in more.into_vec() {
+        rows.push(row)?;
+    }
+    Ok(())
 }

@@ -1,6 +1,6 @@
 //! The search as a system of tasks: branch-and-bound by several slots that share one history.
 //!
-//! A task takes the best open node and works on up to eight nodes, one in each chunk. A chunk
+//! The first task looks for cuts, where they are on. Any other takes the best open node and works on up to eight nodes, one in each chunk. A chunk
 //! tightens the node's box by passes over the rows and bounds what is left by an ascent. The node
 //! is closed where its box is seen to hold no point that is wanted, and the reason is kept; else it
 //! is split in two.
@@ -10,6 +10,7 @@ mod answer;
 mod close_or_split;
 mod column;
 mod copies;
+mod cut_chunk;
 mod keep;
 mod laws;
 mod local;
@@ -24,7 +25,7 @@ pub use answer::{Answer, Best, Status, answer_of};
 pub use laws::{
     answers_are_true, best_nodes_are_taken, histories_are_read, limits_are_met, records_hold,
 };
-pub use local::{Local, Task};
+pub use local::{CutTask, Local, NodeTask, Task};
 pub use search::Search;
 
 #[cfg(test)]

@@ -1,7 +1,8 @@
 use ip_core::{Bounds, List, Row};
 
 /// What a slot keeps: its number, how often it has split a node, the cuts that its task works with,
-/// and the task, none between tasks. The cuts are those of the view at the task's start.
+/// and the task, none between tasks. The cuts are those of the view at the task's start,
+/// and those that the task itself found.
 #[derive(Debug, Drop)]
 pub struct Local {
     pub slot: u32,
@@ -10,11 +11,26 @@ pub struct Local {
     pub task: Option<Task>,
 }
 
-/// What a task keeps: its node with the node's box, the value that a point must be below to be
+/// What a slot works on.
+#[derive(Debug, Drop)]
+pub enum Task {
+    /// It closes or splits nodes, one in each chunk.
+    Nodes(NodeTask),
+    /// It looks for cuts that the model's rows give on the root box.
+    Cuts(CutTask),
+}
+
+/// The number of chunks that a task for cuts has begun, with this one.
+#[derive(Clone, Copy, Debug)]
+pub struct CutTask {
+    pub chunks: u32,
+}
+
+/// What a task on nodes keeps: its node with the node's box, the value that a point must be below to be
 /// worth finding, and the number of nodes that the task has begun, with this one. The box is the
 /// root box cut by the splits on the node's path, without what passes tightened.
 #[derive(Debug, Drop)]
-pub struct Task {
+pub struct NodeTask {
     pub node: u64,
     pub bounds: Bounds,
     pub cutoff: i64,

@@ -5,7 +5,7 @@ ghost use Rattle.task_steps.specs.Points.{is_feasible_at};
 ghost use Rattle.task_steps.specs.Tasks.{is_found as is_found_of, node_chunk as node_chunk_of, on_point as on_point_of};
 
 use crate::close_or_split::{after_point, closing_chunk};
-use crate::local::Task;
+use crate::local::NodeTask;
 use crate::task_chunk::{Progress, TaskChunk, Worker};
 use dual_ascent::{Ascent, ascend};
 use ip_core::{Closing, List, Model, OutOfMemory, Point, Row, is_feasible, value};
@@ -23,7 +23,7 @@ pub fn node_chunk<P: Pulse>(
     model: &Model,
     cuts: &[Row],
     worker: Worker,
-    task: &Task,
+    task: &NodeTask,
     pulse: &mut P,
 ) -> Result<TaskChunk, OutOfMemory>
     requires cuts { AreFewDerived model.now cuts.now }
@@ -68,7 +68,7 @@ pub fn node_chunk<P: Pulse>(
 fn on_point(
     alloc: Global,
     model: &Model,
-    task: &Task,
+    task: &NodeTask,
     worker: Worker,
     progress: Progress,
     ascent: &Ascent,

@@ -14,12 +14,12 @@ pub struct Search {
 }
 
 impl Search {
-    ghost use Rattle.std.specs.Prelude.{◌≡◌};
-    ghost use Rattle.task_steps.specs.Answers.{splits_alone};
+    ghost use Rattle.std.specs.Prelude.{◌≡◌, false};
 
-    /// The search of a model by splits alone: it can't derive cuts or dive yet. It takes no memory.
+    /// The search of a model by splits, with cuts where the settings have them. It can't dive yet. It
+    /// takes no memory.
     pub fn new(model: Model, settings: SearchSettings) -> Search
-        requires { settings ≡ splits_alone }
+        requires { settings.heuristics ≡ false }
         ensures model { result.model ≡ model }
         ensures settings { result.settings ≡ settings }
     {

@@ -1,9 +1,12 @@
-ghost use Rattle.std.specs.Prelude.{◌≡◌, ◌≤◌, ◌<◌, ◌+◌, is_none, IfOk, OnOk};
+ghost use Rattle.std.specs.Prelude.{◌≡◌, ◌≤◌, ◌<◌, ◌+◌, [], ◌∷◌, is_none, IfOk, OnOk};
+ghost use Rattle.work_stamp.specs.declared.task.Begin.TheVariants.{Take};
+ghost use Rattle.task_steps.specs.CutTasks.{cut_task as cut_task_of};
 ghost use Rattle.task_steps.specs.Fits.{FitsLocal};
-ghost use Rattle.task_steps.specs.Rules.{begin_of, chunk_of, fresh_local as fresh_local_of};
+ghost use Rattle.task_steps.specs.Rules.{begin_of, chunk_of, fresh_local as fresh_local_of, local_with, task_on as task_on_of};
 
-use crate::copies::copy_rows;
-use crate::local::{Local, Task};
+use crate::copies::{append_rows, copy_rows};
+use crate::cut_chunk::cut_chunk;
+use crate::local::{CutTask, Local, NodeTask, Task};
 use crate::node_chunk::node_chunk;
 use crate::task_chunk::Worker;
 use ip_core::{List, Model, OutOfMemory};
@@ -30,9 +33,9 @@ pub fn is_at_start(local: &Local) -> bool
     local.task.is_none()
 }
 
-/// What a slot between tasks does: it takes the best open node with the view's cutoff and cuts,
-/// waits where
-/// nothing is open, and is over where a Halt stands, or nothing is open or held.
+/// What a slot between tasks does: it looks for cuts where they are on and no task has, takes the
+/// best open node, waits where nothing is open, and is over where a Halt stands, or nothing is open
+/// or held. A task has the view's cuts, and one on nodes the view's cutoff.
 pub fn begin(
     alloc: Global,
     model: &Model,
@@ -42,21 +45,48 @@ pub fn begin(
     ensures does { IfOk result (λ does. does ≡ (begin_of model.now pool.now local.old).does) }
     ensures local { OnOk result (local.new ≡ (begin_of model.now pool.now local.old).local) }
 {
-    let node = match pool.pick() {
-        Pick::Over => return Ok(Begin::End),
-        Pick::Node(node) => node,
-        Pick::Nothing | Pick::CutLoop | Pick::Heuristic(_) => return Ok(Begin::Idle),
-    };
+    match pool.pick() {
+        Pick::Over => Ok(Begin::End),
+        Pick::Nothing | Pick::Heuristic(_) => Ok(Begin::Idle),
+        Pick::CutLoop => {
+            let task = Task::Cuts(CutTask { chunks: 1 });
+            take(alloc, pool, local, Entry::CutStart, task)
+        }
+        Pick::Node(node) => {
+            let task = Task::Nodes(task_on(alloc, model, pool, node)?);
+            take(alloc, pool, local, Entry::Start { node }, task)
+        }
+    }
+}
+
+/// The slot takes a task, with the view's cuts.
+fn take(
+    alloc: Global,
+    pool: &Pool,
+    local: &mut Local,
+    entry: Entry,
+    task: Task,
+) -> Result<Begin, OutOfMemory>
+    ensures does { IfOk result (λ does. does ≡ Take (entry ∷ [])) }
+    ensures local { OnOk result (local.new ≡ local_with pool.now local.old task) }
+{
     let mut entries = List::new(alloc);
-    entries.push(Entry::Start { node })?;
+    entries.push(entry)?;
     local.cuts = copy_rows(alloc, pool.cuts())?;
-    local.task = Some(Task {
+    local.task = Some(task);
+    Ok(Begin::Take(entries))
+}
+
+/// A task on a node of the view, with its box and the view's cutoff.
+fn task_on(alloc: Global, model: &Model, pool: &Pool, node: u64) -> Result<NodeTask, OutOfMemory>
+    ensures { IfOk result (λ task. task ≡ task_on_of model.now pool.now node) }
+{
+    Ok(NodeTask {
         node,
         bounds: pool.bounds_of(alloc, model, node)?,
         cutoff: pool.cutoff(),
         nodes: 1,
-    });
-    Ok(Begin::Take(entries))
+    })
 }
 
 /// A chunk of the slot's task. Without a task nothing happens.
@@ -86,16 +116,37 @@ pub fn chunk<P: Pulse>(
             work: 0,
         });
     };
-    let worker = Worker {
-        slot: local.slot,
-        splits: local.splits,
-    };
-    let chunk = node_chunk(alloc, model, local.cuts.as_slice(), worker, task, pulse)?;
-    local.splits = chunk.splits;
-    local.task = chunk.task;
-    Ok(Chunk {
-        entries: chunk.entries,
-        records: chunk.records,
-        work: chunk.work,
-    })
+    match task {
+        Task::Nodes(task) => {
+            let worker = Worker {
+                slot: local.slot,
+                splits: local.splits,
+            };
+            let chunk = node_chunk(alloc, model, local.cuts.as_slice(), worker, task, pulse)?;
+            local.splits = chunk.splits;
+            local.task = chunk.task;
+            Ok(Chunk {
+                entries: chunk.entries,
+                records: chunk.records,
+                work: chunk.work,
+            })
+        }
+        Task::Cuts(task) => {
+            let chunk = cut_chunk(alloc, model, local.cuts.as_slice(), task.chunks, pulse)?;
+            append_rows(&mut local.cuts, chunk.cuts)?;
+            local.task = cut_task(chunk.task);
+            Ok(Chunk {
+                entries: chunk.entries,
+                records: List::new(alloc),
+                work: chunk.work,
+            })
+        }
+    }
+}
+
+/// The task of a slot that goes on to look for cuts.
+fn cut_task(task: Option<CutTask>) -> Option<Task>
+    ensures { result ≡ cut_task_of task }
+{
+    Some(Task::Cuts(task?))
 }

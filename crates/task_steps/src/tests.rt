@@ -7,18 +7,18 @@ use crate::{
     limits_are_met, records_hold,
 };
 use ip_core::dense::{DenseModel, DenseRow};
-use ip_core::{List, OutOfMemory};
+use ip_core::{Derivation, List, OutOfMemory};
 use node_pool::SearchSettings;
 use stamp_machine::{History, Limits, run_alone};
 use std::alloc::Global;
 use std::test::Fail;
 use work_stamp::Entry;
 
-/// The search of a model in plain numbers.
-fn search_of(alloc: Global, dense: &DenseModel) -> Result<Search, Fail> {
+/// The search of a model in plain numbers, with cuts or without.
+fn search_of(alloc: Global, dense: &DenseModel, cuts: bool) -> Result<Search, Fail> {
     let model = dense.build(alloc)?.ok_or("a model")?;
     let settings = SearchSettings {
-        cuts: false,
+        cuts,
         heuristics: false,
     };
     Ok(Search::new(model, settings))
@@ -30,6 +30,17 @@ const UNIT: DenseModel<'static> = DenseModel {
     lows: &[0],
     highs: &[1],
     rows: &[],
+};
+
+/// The least x in 0 to 5 with 2x at least 3.
+const DOUBLED: DenseModel<'static> = DenseModel {
+    costs: &[1],
+    lows: &[0],
+    highs: &[5],
+    rows: &[DenseRow {
+        coefs: &[2],
+        least: 3,
+    }],
 };
 
 /// 46 columns in 0 to 1 with cost 1.
@@ -132,8 +143,12 @@ const DONE: u64 = 5;
 
 const HALT: u64 = 6;
 
-/// The number of an entry's kind, and its node with a split's first child, or its value. Another
-/// kind has the number 0.
+const CUT_START: u64 = 7;
+
+const CUT: u64 = 8;
+
+/// The number of an entry's kind, and its node with a split's first child, its value, or a cut's
+/// divisor with the weight of its one part. Another kind has the number 0.
 fn kind_row(entry: &Entry) -> [u64; 3] {
     match entry {
         Entry::Start { node } => [START, *node, 0],
@@ -142,7 +157,19 @@ fn kind_row(entry: &Entry) -> [u64; 3] {
         Entry::Closed { node } => [CLOSED, *node, 0],
         Entry::Done => [DONE, 0, 0],
         Entry::Halt => [HALT, 0, 0],
+        Entry::CutStart => [CUT_START, 0, 0],
+        Entry::Cut { derivation } => cut_row(derivation),
         _ => [0, 0, 0],
+    }
+}
+
+fn cut_row(derivation: &Derivation) -> [u64; 3] {
+    match derivation {
+        Derivation::Gomory { parts, divisor } => match parts.as_slice() {
+            [part] => [CUT, *divisor, part.weight],
+            _ => [0, 0, 0],
+        },
+        Derivation::Cover { .. } => [0, 0, 0],
     }
 }
 
@@ -184,6 +211,7 @@ fn is_answer(answer: &Answer, status: Status, wanted: Option<(i64, &[i64])>) -> 
 #[derive(Clone, Copy)]
 struct Run {
     dense: DenseModel<'static>,
+    cuts: bool,
     slots: u32,
     work: u64,
     store: u32,
@@ -193,11 +221,12 @@ struct Run {
     best: Option<(i64, &'static [i64])>,
 }
 
-const RUNS: [Run; 7] = [
+const RUNS: [Run; 8] = [
     // The chunk counts 1, a pass of 1 and twelve rounds of 1. Slot 1 finds nothing open at stamp
     // 0, waits until 1,000, and is over then.
     Run {
         dense: UNIT,
+        cuts: false,
         slots: 2,
         work: 200_000_000,
         store: 2_097_152,
@@ -211,9 +240,32 @@ const RUNS: [Run; 7] = [
         status: Status::Optimal,
         best: Some((0, &[0])),
     },
+    // The first chunk counts 1 + 13 * 4 + 16, and finds two cuts. The second counts 1 + 13 * 10 + 48,
+    // and finds none. On the root's node one pass raises the low, after which nothing changes.
+    Run {
+        dense: DOUBLED,
+        cuts: true,
+        slots: 1,
+        work: 200_000_000,
+        store: 2_097_152,
+        rows: &[
+            [0, 0, CUT_START, 0, 0],
+            [69, 0, CUT, 2, 1],
+            [69, 0, CUT, 2_048, 512],
+            [248, 0, DONE, 0, 0],
+            [248, 0, START, 0, 0],
+            [377, 0, FOUND, 2, 0],
+            [377, 0, CLOSED, 0, 0],
+            [377, 0, DONE, 0, 0],
+        ],
+        ends: &[377],
+        status: Status::Optimal,
+        best: Some((2, &[2])),
+    },
     // The root is split after 1 + 7 + 11 * 19, and each child is closed by its passes.
     Run {
         dense: ODD,
+        cuts: false,
         slots: 1,
         work: 200_000_000,
         store: 2_097_152,
@@ -232,6 +284,7 @@ const RUNS: [Run; 7] = [
     },
     Run {
         dense: UNIT,
+        cuts: false,
         slots: 1,
         work: 0,
         store: 2_097_152,
@@ -242,6 +295,7 @@ const RUNS: [Run; 7] = [
     },
     Run {
         dense: UNIT,
+        cuts: false,
         slots: 1,
         work: 14,
         store: 2_097_152,
@@ -252,6 +306,7 @@ const RUNS: [Run; 7] = [
     },
     Run {
         dense: UNIT,
+        cuts: false,
         slots: 1,
         work: 15,
         store: 2_097_152,
@@ -269,6 +324,7 @@ const RUNS: [Run; 7] = [
     // may publish.
     Run {
         dense: UNITS_46,
+        cuts: false,
         slots: 1,
         work: 200_000_000,
         store: 64,
@@ -280,6 +336,7 @@ const RUNS: [Run; 7] = [
     // With one column less they are 60 words in all.
     Run {
         dense: UNITS_45,
+        cuts: false,
         slots: 1,
         work: 200_000_000,
         store: 64,
@@ -319,7 +376,7 @@ fn limits_of(slots: u32, work: u64, store: u32) -> Option<Limits>
 
 /// Whether a run comes out as it is to.
 fn is_as_wanted(alloc: Global, run: &Run) -> Result<bool, Fail> {
-    let search = search_of(alloc, &run.dense)?;
+    let search = search_of(alloc, &run.dense, run.cuts)?;
     let limits = limits_of(run.slots, run.work, run.store).ok_or("limits")?;
     let (history, answer) = answer(alloc, &search, &limits)?;
     let same = has_rows(alloc, &history, run.rows, run.ends)?;
@@ -344,7 +401,7 @@ fn histories_follow_the_rules(rt: HostRuntime) -> Result<(), Fail> {
 
 /// Whether four slots find this best point of a model, with this value.
 fn is_best(alloc: Global, dense: &DenseModel, value: i64, point: &[i64]) -> Result<bool, Fail> {
-    let search = search_of(alloc, dense)?;
+    let search = search_of(alloc, dense, true)?;
     let limits = Limits {
         slots: 4,
         work: 200_000_000,
@@ -416,7 +473,7 @@ fn lesser(least: Option<i64>, value: i64) -> Option<i64> {
 }
 
 /// Whether the search of a model within limits has the least value of all points.
-fn is_least(alloc: Global, case: &[i64; 11], limits: &Limits) -> Result<bool, Fail>
+fn is_least(alloc: Global, case: &[i64; 11], limits: &Limits, cuts: bool) -> Result<bool, Fail>
     requires { AreLimits limits.now }
 {
     let dense = DenseModel {
@@ -434,7 +491,7 @@ fn is_least(alloc: Global, case: &[i64; 11], limits: &Limits) -> Result<bool, Fa
             },
         ],
     };
-    let search = search_of(alloc, &dense)?;
+    let search = search_of(alloc, &dense, cuts)?;
     let (_history, answer) = answer(alloc, &search, limits)?;
     let value = match &answer.best {
         Some(best) => Some(best.value),
@@ -444,7 +501,7 @@ fn is_least(alloc: Global, case: &[i64; 11], limits: &Limits) -> Result<bool, Fa
     Ok(ended && value == least(case))
 }
 
-/// Whether so many slots each have the least value.
+/// Whether so many slots have the least value, without cuts and with them.
 fn is_least_on(alloc: Global, case: &[i64; 11], slots: u32) -> Result<bool, Fail>
     requires { AreLimits (record { slots = slots; work = 1000000; store = 10000 }) }
 {
@@ -453,7 +510,7 @@ fn is_least_on(alloc: Global, case: &[i64; 11], slots: u32) -> Result<bool, Fail
         work: 1_000_000,
         store: 10_000,
     };
-    is_least(alloc, case, &limits)
+    Ok(is_least(alloc, case, &limits, false)? && is_least(alloc, case, &limits, true)?)
 }
 
 /// The first model whose search differs from the enumeration of all its points, by 1, 2, 5 or 64

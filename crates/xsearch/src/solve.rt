@@ -1,8 +1,7 @@
-ghost use Rattle.std.specs.Prelude.{◌≡◌, ◌++◌, IfOk, OnOk};
+ghost use Rattle.std.specs.Prelude.{◌≡◌, ◌++◌, false, IfOk, OnOk};
 ghost use Rattle.ip_core.specs.declared.model.ModelParts.{ModelParts};
 ghost use Rattle.mps_model.specs.MpsModels.{IsMpsModel};
 ghost use Rattle.stamp_machine.specs.Limits.{AreLimits};
-ghost use Rattle.task_steps.specs.Answers.{splits_alone};
 ghost use Rattle.task_steps.specs.Truth.{IsHistory};
 ghost use Rattle.tree_build.specs.Certificates.{proof_of};
 ghost use Rattle.width_admit.specs.Admission.{IsCause};
@@ -197,11 +196,11 @@ fn limits_of(tune: &Tune) -> Limits
     }
 }
 
-/// The switches that are set: there are no cuts and dives yet.
+/// The switches that are set: there are no dives yet.
 fn settings_of(tune: &Tune) -> SearchSettings
     requires { IsTune tune.now }
     ensures value { result ≡ settings_of_tune tune.now }
-    ensures splits { result ≡ splits_alone }
+    ensures dives { result.heuristics ≡ false }
 {
     SearchSettings {
         cuts: tune.cuts,

@@ -1,12 +1,12 @@
 -- What a slot between tasks does.
-use Rattle.std.proofs.Common.{◌≡◌, ℕ, Bool, true, false, ◌||◌, cond, nat_eq, List, [], ◌∷◌, Option, is_none, Some, None, All, refl, sym, ap, subst, arith}
+use Rattle.std.proofs.Common.{◌≡◌, ℕ, Bool, true, false, ◌||◌, cond, nat_eq, List, [], ◌∷◌, Option, is_none, Some, None, All, refl, sym, ap, subst, arith, ◌&&◌}
 use Rattle.std.proofs.lemmas.List.Elements.{All-cons, All-head, All-nil}
 use Rattle.std.proofs.lemmas.Option.{none-some, same_Some}
 use Rattle.ip_core.specs.declared.model.ModelParts.{ModelParts}
 use Rattle.work_stamp.specs.Taskers.{AfterBegin, HaveWords}
 use Rattle.work_stamp.specs.Writable.{HasWords}
 use Rattle.work_stamp.specs.declared.entry.Entry.{Entry}
-use Rattle.work_stamp.specs.declared.entry.Entry.TheVariants.{Start}
+use Rattle.work_stamp.specs.declared.entry.Entry.TheVariants.{CutStart, Start}
 use Rattle.work_stamp.specs.declared.task.Begin.TheVariants.{Take, Idle, End}
 use Rattle.node_pool.specs.Follows.{IsOpen}
 use Rattle.node_pool.specs.Nodes.{first_named}
@@ -16,9 +16,11 @@ use Rattle.node_pool.specs.declared.node.OpenNode.{OpenNode}
 use Rattle.node_pool.specs.declared.pick.Pick.{Pick}
 use Rattle.node_pool.specs.declared.pick.Pick.TheVariants.{CutLoop, Heuristic, Node, Nothing, Over}
 use Rattle.task_steps.specs.Fits.{FitsLocal, FitsView, IsBoxed}
-use Rattle.task_steps.specs.Rules.{begin_by, begin_of, local_on, task_on}
+use Rattle.task_steps.specs.Rules.{begin_by, begin_of, first_cuts, local_on, local_with, task_on}
 use Rattle.task_steps.specs.declared.local.Local.{Local}
-use Rattle.task_steps.specs.Lemmas.NameCounts.{ne_from_test}
+use Rattle.task_steps.specs.Lemmas.NameCounts.{eq_from_test, ne_from_test}
+use Rattle.task_steps.specs.Lemmas.Feasible.{and_true}
+use Rattle.task_steps.specs.declared.local.Task.TheVariants.{Nodes, Cuts}
 
 node_named : (heuristic : Bool) (o : Option ℕ) (name : ℕ) → node_pick heuristic o ≡ Node name
     → o ≡ Some name
@@ -37,6 +39,32 @@ pick_named false false heuristic o name same = node_named heuristic o name same
 pub pick_best : (v : View) (name : ℕ) → pick_of v ≡ Node name → best_open v ≡ Some name
 pick_best v name same = pick_named (v.has_halt || is_finished v) (wants_cuts v) (wants_heuristic v)
     (best_open v) name same
+
+cuts_wanted : (heuristic : Bool) (o : Option ℕ) → node_pick heuristic o ≡ CutLoop → ⊥
+cuts_wanted true None same = cc
+cuts_wanted false None same = cc
+cuts_wanted true (Some node) same = cc
+cuts_wanted false (Some node) same = cc
+
+cuts_picked : (over cuts heuristic : Bool) (o : Option ℕ)
+    → cond over Over (cond cuts CutLoop (node_pick heuristic o)) ≡ CutLoop → cuts ≡ true
+cuts_picked true cuts heuristic o same = absurd (cc)
+cuts_picked false true heuristic o same = refl
+cuts_picked false false heuristic o same = absurd (cuts_wanted heuristic o same)
+
+-- cuts are picked where they are to be looked for
+pub pick_cuts : (v : View) → pick_of v ≡ CutLoop → wants_cuts v ≡ true
+pick_cuts v same = cuts_picked (v.has_halt || is_finished v) (wants_cuts v) (wants_heuristic v)
+    (best_open v) same
+
+none_test : (n : ℕ) → nat_eq n 0 ≡ true → n ≡ 0
+none_test n test = eq_from_test n 0 test
+
+-- and then none has looked for them
+pub no_cut_starts : (v : View) → pick_of v ≡ CutLoop → v.cut_starts ≡ 0
+no_cut_starts v same =
+    none_test v.cut_starts
+    (and_true (v.settings.cuts && v.has_rows) (nat_eq v.cut_starts 0) (pick_cuts v same)).1
 
 -- the first open node is open
 
@@ -95,7 +123,8 @@ begin_cases : (m : ModelParts) (v : View) (l : Local) (pick : Pick) → pick_of 
     → FitsView m v → FitsLocal m l → FitsLocal m (begin_by m v l pick).local
 begin_cases m v l Over same view fits = fits
 begin_cases m v l Nothing same view fits = fits
-begin_cases m v l CutLoop same view fits = fits
+begin_cases m v l CutLoop same view fits =
+    record { slot = fits.slot; few = fits.few; cuts = view.cuts; task = record { few = omega arith } }
 begin_cases m v l (Heuristic node) same view fits = fits
 begin_cases m v l (Node node) same view fits =
     task_fits m v l node view fits (pick_boxed m v node view same)
@@ -105,13 +134,13 @@ pub begin_fits : (m : ModelParts) (v : View) (l : Local) → FitsView m v → Fi
     → FitsLocal m (begin_of m v l).local
 begin_fits m v l view fits = begin_cases m v l (pick_of v) refl view fits
 
--- what a slot takes is an open node
-pub record IsTaken (m : ModelParts) (v : View) (l : Local) (es : List Entry)
-    (after : AfterBegin Local) : Type 0 where
-  pub node : ℕ
-  pub picked : pick_of v ≡ Node node
-  pub entries : es ≡ Start node ∷ []
-  pub local : after.local ≡ local_on m v l node
+-- what a slot takes is an open node, or to look for cuts
+pub data IsTaken (m : ModelParts) (v : View) (l : Local) : List Entry → AfterBegin Local → Type 0
+  where
+    OfNode : (node : ℕ) → pick_of v ≡ Node node → IsTaken m v l (Start node ∷ [])
+        (record { does = Take (Start node ∷ []); local = local_on m v l node })
+    OfCuts : pick_of v ≡ CutLoop → IsTaken m v l (CutStart ∷ [])
+        (record { does = Take (CutStart ∷ []); local = local_with v l first_cuts })
 
 end_takes_none : (es : List Entry) → End ≡ Take es → ⊥
 end_takes_none es same = cc
@@ -127,40 +156,51 @@ taken_cases : (m : ModelParts) (v : View) (l : Local) (es : List Entry) (pick : 
     → IsTaken m v l es (begin_by m v l pick)
 taken_cases m v l es Over is same = absurd (end_takes_none es same)
 taken_cases m v l es Nothing is same = absurd (idle_takes_none es same)
-taken_cases m v l es CutLoop is same = absurd (idle_takes_none es same)
 taken_cases m v l es (Heuristic node) is same = absurd (idle_takes_none es same)
-taken_cases m v l es (Node node) is same = record {
-  node = node;
-  picked = is;
-  entries = same_taken (Start node ∷ []) es same;
-  local = refl;
-}
+taken_cases m v l es CutLoop is same =
+    subst (λ (xs : List Entry). IsTaken m v l xs (begin_by m v l CutLoop))
+    (sym (same_taken (CutStart ∷ []) es same)) (OfCuts is)
+taken_cases m v l es (Node node) is same =
+    subst (λ (xs : List Entry). IsTaken m v l xs (begin_by m v l (Node node)))
+    (sym (same_taken (Start node ∷ []) es same)) (OfNode node is)
 
 pub taken_is : (m : ModelParts) (v : View) (l : Local) (es : List Entry)
     → (begin_of m v l).does ≡ Take es → IsTaken m v l es (begin_of m v l)
 taken_is m v l es same = taken_cases m v l es (pick_of v) refl same
 
+taken_begun : (m : ModelParts) (v : View) (l : Local) (es : List Entry) (after : AfterBegin Local)
+    → IsTaken m v l es after → is_none after.local.task ≡ false
+taken_begun m v l _ _ (OfNode node is) = refl
+taken_begun m v l _ _ (OfCuts is) = refl
+
 -- a task that is taken has begun
 pub take_begins : (m : ModelParts) (v : View) (l : Local) (es : List Entry)
     → (begin_of m v l).does ≡ Take es → is_none (begin_of m v l).local.task ≡ false
-take_begins m v l es same = ap (λ (x : Local). is_none x.task) (taken_is m v l es same).local
+take_begins m v l es same = taken_begun m v l es (begin_of m v l) (taken_is m v l es same)
+
+taken_words : (m : ModelParts) (v : View) (l : Local) (es : List Entry) (after : AfterBegin Local)
+    → FitsView m v → IsTaken m v l es after → HaveWords es
+taken_words m v l _ _ fits (OfNode node is) = record {
+  each = All-cons HasWords (Start node) []
+      (record { writable = tt; in_range = (pick_boxed m v node fits is).word })
+      (All-nil HasWords);
+}
+taken_words m v l _ _ fits (OfCuts is) = record {
+  each = All-cons HasWords CutStart [] (record { writable = tt; in_range = tt })
+      (All-nil HasWords);
+}
 
 -- its entry has words
 pub begin_words : (m : ModelParts) (v : View) (l : Local) (es : List Entry) → FitsView m v
     → (begin_of m v l).does ≡ Take es → HaveWords es
 begin_words m v l es fits same =
-    let taken = taken_is m v l es same in
-    let word = (pick_boxed m v taken.node fits taken.picked).word in
-    subst HaveWords (sym taken.entries) (record {
-      each = All-cons HasWords (Start taken.node) [] (record { writable = tt; in_range = word })
-          (All-nil HasWords);
-    })
+    taken_words m v l es (begin_of m v l) fits (taken_is m v l es same)
 
 idle_cases : (m : ModelParts) (v : View) (l : Local) (pick : Pick)
     → (begin_by m v l pick).does ≡ Idle → (begin_by m v l pick).local ≡ l
 idle_cases m v l Over same = absurd (cc)
 idle_cases m v l Nothing same = refl
-idle_cases m v l CutLoop same = refl
+idle_cases m v l CutLoop same = absurd (cc)
 idle_cases m v l (Heuristic node) same = refl
 idle_cases m v l (Node node) same = absurd (cc)
 
@@ -173,7 +213,7 @@ end_cases : (m : ModelParts) (v : View) (l : Local) (pick : Pick) → (begin_by 
     → (begin_by m v l pick).local ≡ l
 end_cases m v l Over same = refl
 end_cases m v l Nothing same = refl
-end_cases m v l CutLoop same = refl
+end_cases m v l CutLoop same = absurd (cc)
 end_cases m v l (Heuristic node) same = refl
 end_cases m v l (Node node) same = absurd (cc)
 

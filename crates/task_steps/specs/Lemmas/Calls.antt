@@ -12,6 +12,8 @@ use Rattle.task_steps.specs.Lemmas.ChunkWork.{chunk_counts}
 use Rattle.task_steps.specs.Lemmas.TaskChunks.{worker_of}
 use Rattle.task_steps.specs.Lemmas.Working.{chunk_good}
 use Rattle.task_steps.specs.Lemmas.TaskCuts.{none_derived}
+use Rattle.task_steps.specs.declared.local.Task.TheVariants.{Nodes, Cuts}
+use Rattle.task_steps.specs.Lemmas.CutChunks.{cut_chunk_good}
 
 -- a fresh local fits
 pub fresh_local_fits : (m : ModelParts) (slot : ℕ) → slot < 64 → FitsLocal m (fresh_local slot)
@@ -27,7 +29,15 @@ pub record IsLawfulChunk (m : ModelParts) (l : Local) (o : Option Task) : Type 0
 pub chunk_lawful : (m : ModelParts) (l : Local) (o : Option Task) → IsModel m → IsPaired m.root
     → FitsLocal m l → FitsTask m o → is_none o ≡ false → IsLawfulChunk m l o
 chunk_lawful m l None valid paired fits task_fits start_is = absurd (cc)
-chunk_lawful m l (Some task) valid paired fits task_fits start_is =
+chunk_lawful m l (Some (Nodes task)) valid paired fits task_fits start_is =
     let good = chunk_good m l task valid paired fits task_fits in
     let counts = chunk_counts m l.cuts (worker_of l) task valid fits.cuts in
     record { fits = good.fits; words = good.words; some_work = counts.0; little_work = counts.1 }
+chunk_lawful m l (Some (Cuts task)) valid paired fits task_fits start_is =
+    let good = cut_chunk_good m l task.chunks valid fits task_fits.few in
+    record {
+      fits = good.fits;
+      words = good.words;
+      some_work = good.some_work;
+      little_work = good.little_work;
+    }

@@ -20,7 +20,7 @@ use Rattle.task_steps.specs.Tasks.{after_passes, after_point, ascent_of, closing
 use Rattle.ip_core.specs.Models.{IsModel}
 use Rattle.task_steps.specs.Fits.{AreFewDerived}
 use Rattle.task_steps.specs.Lemmas.Counts.{climb_little, passes_work}
-use Rattle.task_steps.specs.declared.local.Task.{Task}
+use Rattle.task_steps.specs.declared.local.NodeTask.{NodeTask}
 use Rattle.task_steps.specs.declared.task_chunk.TaskChunk.{TaskChunk}
 use Rattle.task_steps.specs.declared.task_chunk.Progress.{Progress}
 use Rattle.task_steps.specs.declared.task_chunk.Worker.{Worker}
@@ -30,7 +30,7 @@ choice_work : (b : Bool) (x y : TaskChunk) (n : ℕ) → x.work ≡ n → y.work
 choice_work true x y n first second = first
 choice_work false x y n first second = second
 
-after_point_work : (m : ModelParts) (task : Task) (worker : Worker) (p : Progress) (a : Ascent)
+after_point_work : (m : ModelParts) (task : NodeTask) (worker : Worker) (p : Progress) (a : Ascent)
     (cutoff : ℤ) (found : List Entry) → (after_point m task worker p a cutoff found).work ≡ p.work
 after_point_work m task worker p a cutoff found =
     let col = widest p.bounds in
@@ -40,13 +40,13 @@ after_point_work m task worker p a cutoff found =
     (splitting_chunk task worker found cutoff p.work col at
     (kept_child task.nodes (int_at a.point col) at) a.bound) p.work refl refl
 
-on_point_work : (m : ModelParts) (task : Task) (worker : Worker) (p : Progress) (a : Ascent)
+on_point_work : (m : ModelParts) (task : NodeTask) (worker : Worker) (p : Progress) (a : Ascent)
     (found : Bool) → (on_point m task worker p a found).work ≡ p.work
 on_point_work m task worker p a true = after_point_work m task worker p a (value_at m a.point)
     (Found (value_at m a.point) a.point ∷ [])
 on_point_work m task worker p a false = after_point_work m task worker p a task.cutoff []
 
-open_work : (m : ModelParts) (cuts : List Row) (task : Task) (worker : Worker) (p : Propagation) (o : Ended)
+open_work : (m : ModelParts) (cuts : List Row) (task : NodeTask) (worker : Worker) (p : Propagation) (o : Ended)
     → o ≡ ended.Open → ascent_work m cuts p.sides ≤ (after_passes m cuts task worker p o).work
 open_work m cuts task worker p o is =
     let a = ascent_of m cuts p.sides in
@@ -54,7 +54,7 @@ open_work m cuts task worker p o is =
     rw is (omega (arith, same))
 
 -- where the passes from the task's box leave it open, the chunk counts the ascent
-pub counts_ascent : (m : ModelParts) (cuts : List Row) (worker : Worker) (task : Task) (start s : Sides)
+pub counts_ascent : (m : ModelParts) (cuts : List Row) (worker : Worker) (task : NodeTask) (start s : Sides)
     (run : PassRun) → start ≡ task.bounds → s ≡ (propagation_of m.rows cuts start).sides
     → run ≡ (propagation_of m.rows cuts start).run → run.outcome ≡ ended.Open
     → ascent_work m cuts s ≤ (node_chunk m cuts worker task).work
@@ -69,14 +69,14 @@ counts_ascent m cuts worker task start s run start_is sides run_is goes =
     rw (sides ∙ ap (λ (q : Propagation). q.sides) passed) counted
 
 -- so a pulse that allows the chunk allows the ascent
-pub ascent_allowed : (m : ModelParts) (cuts : List Row) (worker : Worker) (task : Task) (start s : Sides)
+pub ascent_allowed : (m : ModelParts) (cuts : List Row) (worker : Worker) (task : NodeTask) (start s : Sides)
     (run : PassRun) (n : ℕ) → start ≡ task.bounds → s ≡ (propagation_of m.rows cuts start).sides
     → run ≡ (propagation_of m.rows cuts start).run → run.outcome ≡ ended.Open
     → (node_chunk m cuts worker task).work ≤ n → ascent_work m cuts s ≤ n
 ascent_allowed m cuts worker task start s run n start_is sides run_is goes allowed =
     le_trans (counts_ascent m cuts worker task start s run start_is sides run_is goes) allowed
 
-work_cases : (m : ModelParts) (cuts : List Row) (task : Task) (worker : Worker) (p : Propagation) (o : Ended)
+work_cases : (m : ModelParts) (cuts : List Row) (task : NodeTask) (worker : Worker) (p : Propagation) (o : Ended)
     → (1 ≤ (after_passes m cuts task worker p o).work)
     × ((after_passes m cuts task worker p o).work ≤ 1 + p.run.work + ascent_work m cuts p.sides)
 work_cases m cuts task worker p ended.Open =
@@ -87,7 +87,7 @@ work_cases m cuts task worker p (ended.Conflict row) = (omega arith, omega arith
 work_cases m cuts task worker p (ended.Empty col) = (omega arith, omega arith)
 
 -- a chunk counts some work, and not too much
-pub chunk_counts : (m : ModelParts) (cuts : List Row) (worker : Worker) (task : Task) → IsModel m
+pub chunk_counts : (m : ModelParts) (cuts : List Row) (worker : Worker) (task : NodeTask) → IsModel m
     → AreFewDerived m cuts → (1 ≤ (node_chunk m cuts worker task).work) × ((node_chunk m cuts worker task).work ≤ 2 ^ 40)
 chunk_counts m cuts worker task valid own =
     let p = propagation_of m.rows cuts task.bounds in

@@ -2,6 +2,7 @@
 use Rattle.std.proofs.Common.{◌≡◌, ◌∙◌, ℕ, zero, suc, ◌+◌, ◌≤◌, Bool, true, false, ◌||◌, nat_eq, List, [], ◌∷◌, ◌++◌, ℤ, ◌≤ℤ◌, refl, ap, arith}
 use Rattle.std.specs.Int.{int_min}
 use Rattle.std.specs.List.{list_any}
+use Rattle.std.proofs.lemmas.Bool.{true≢false}
 use Rattle.std.proofs.lemmas.Int.{ints, clamps}
 use Rattle.std.proofs.lemmas.List.Folds.{list_any-append}
 use Rattle.ip_core.specs.declared.model.ModelParts.{ModelParts}
@@ -11,7 +12,7 @@ use Rattle.node_pool.specs.Branchings.{Branch, box_of, is_child}
 use Rattle.node_pool.specs.Follows.{MayFollow, MayJoin, MaySplit}
 use Rattle.node_pool.specs.Laws.{HasCutsOf}
 use Rattle.node_pool.specs.Lemmas.Boxes.{boxes_are_parts}
-use Rattle.node_pool.specs.Lemmas.Cuts.{cuts_are_derived}
+use Rattle.node_pool.specs.Lemmas.Cuts.{children_cuts, cuts_are_derived}
 use Rattle.node_pool.specs.Nodes.{insert_open}
 use Rattle.node_pool.specs.Views.{View, after_entry, is_known, open_node, with_branch, with_children, without_held}
 use Rattle.node_pool.specs.declared.node.OpenNode.{OpenNode}
@@ -55,6 +56,18 @@ gone (Split node col at first keep bound) name = one_if (nat_eq node name)
 gone (Closed node) name = one_if (nat_eq node name)
 gone Halt name = 0
 
+-- whether an entry adds a cut
+abbrev pub adds_cut : Entry → Bool
+adds_cut (Start node) = false
+adds_cut CutStart = false
+adds_cut (HeurStart node) = false
+adds_cut Done = false
+adds_cut (Found value point) = false
+adds_cut (Cut derivation) = true
+adds_cut (Split node col at first keep bound) = false
+adds_cut (Closed node) = false
+adds_cut Halt = false
+
 -- The view `w` after one more entry. Known names stay known, and their boxes stay; cuts stay; the
 -- cutoff only falls; the nodes that are left, and those that are held, are the old ones but for those that the
 -- entry is done with, and those that it makes.
@@ -68,6 +81,8 @@ pub record IsNext (m : ModelParts) (v w : View) (e : Entry) : Type 0 where
   pub held : (name : ℕ)
       → count_name name v.held_nodes ≤ count_name name w.held_nodes + gone e name
   pub cuts : HasCutsOf v.cuts w.cuts
+  pub same_cuts : adds_cut e ≡ false → w.cuts ≡ v.cuts
+  pub cut_starts : v.cut_starts ≤ w.cut_starts
 
 -- names
 
@@ -232,6 +247,45 @@ held_after m v (Closed node) name may =
     let taken = name_taken name node v.held_nodes may.among in omega (arith, taken)
 held_after m v Halt name may = omega arith
 
+-- cuts
+
+cuts_same : (m : ModelParts) (v : View) (e : Entry) → adds_cut e ≡ false
+    → (after_entry m v e).cuts ≡ v.cuts
+cuts_same m v (Start node) none = refl
+cuts_same m v CutStart none = refl
+cuts_same m v (HeurStart node) none = refl
+cuts_same m v Done none = refl
+cuts_same m v (Found value point) none = refl
+cuts_same m v (Cut derivation) none = absurd (true≢false none)
+cuts_same m v (Split node col at first keep bound) none =
+    children_cuts (base_of v node col at first bound) (open_node first bound)
+    (open_node (first + 1) bound) keep
+cuts_same m v (Closed node) none = refl
+cuts_same m v Halt none = refl
+
+children_cut_starts : (v : View) (low high : OpenNode) (keep : ℕ)
+    → (with_children v low high keep).cut_starts ≡ v.cut_starts
+children_cut_starts v low high zero = refl
+children_cut_starts v low high (suc zero) = refl
+children_cut_starts v low high (suc (suc more)) = refl
+
+no_fewer : (a b : ℕ) → b ≡ a → a ≤ b
+no_fewer a b same = omega (arith, same)
+
+cut_starts_after : (m : ModelParts) (v : View) (e : Entry)
+    → v.cut_starts ≤ (after_entry m v e).cut_starts
+cut_starts_after m v (Start node) = no_fewer v.cut_starts v.cut_starts refl
+cut_starts_after m v CutStart = omega arith
+cut_starts_after m v (HeurStart node) = no_fewer v.cut_starts v.cut_starts refl
+cut_starts_after m v Done = no_fewer v.cut_starts v.cut_starts refl
+cut_starts_after m v (Found value point) = no_fewer v.cut_starts v.cut_starts refl
+cut_starts_after m v (Cut derivation) = no_fewer v.cut_starts v.cut_starts refl
+cut_starts_after m v (Split node col at first keep bound) =
+    no_fewer v.cut_starts _ (children_cut_starts (base_of v node col at first bound)
+    (open_node first bound) (open_node (first + 1) bound) keep)
+cut_starts_after m v (Closed node) = no_fewer v.cut_starts v.cut_starts refl
+cut_starts_after m v Halt = no_fewer v.cut_starts v.cut_starts refl
+
 one_more : (n : ℕ) → n + 1 ≡ suc n
 one_more n = omega arith
 
@@ -246,4 +300,6 @@ next_of m v e follows = record {
   left = λ name. left_after m v e name follows.joins;
   held = λ name. held_after m v e name follows.joins;
   cuts = cuts_are_derived.stay m v e;
+  same_cuts = cuts_same m v e;
+  cut_starts = cut_starts_after m v e;
 }

@@ -12,7 +12,7 @@ use Rattle.task_steps.specs.Fits.{FitsView}
 use Rattle.task_steps.specs.Sound.{IsSound}
 use Rattle.task_steps.specs.Tasks.{child_name}
 use Rattle.task_steps.specs.declared.answer.Best.{Best}
-use Rattle.task_steps.specs.Lemmas.Entries.{IsNext, gone, makes}
+use Rattle.task_steps.specs.Lemmas.Entries.{IsNext, adds_cut, gone, makes}
 use Rattle.task_steps.specs.Lemmas.Fitting.{held_known}
 use Rattle.task_steps.specs.Lemmas.NameCounts.{among_counts, counts_among, eq_from_test, ne_from_test}
 
@@ -69,21 +69,41 @@ still_new m v w e name next new none =
 -- a claim that goes on
 pub owed_next : (m : ModelParts) (v w : View) (e : Entry) (slot : ℕ) (c d : Claim)
     → IsNext m v w e → IsOwed m v slot c → HasHold m w d.hold → w.cutoff ≤ℤ d.cutoff
-    → c.splits ≤ d.splits → d.splits ≤ suc v.entries → HasCutsOf d.cuts v.cuts
+    → c.splits ≤ d.splits → d.splits ≤ suc v.entries → HasCutsOf d.cuts w.cuts
+    → (d.adds ≡ true → w.cuts ≡ d.cuts) → (d.adds ≡ true → 1 ≤ w.cut_starts)
     → ((k : ℕ) → d.splits < k → k ≤ 2 ^ 37 → MakesNeither e (child_name slot k))
     → IsOwed m w slot d
-owed_next m v w e slot c d next owed held below risen few front neither =
+owed_next m v w e slot c d next owed held below risen few front alone begun neither =
     let counted = next.counted in
     record {
       held = held;
       cutoff = below;
       few = omega (arith, counted, few);
-      cuts = more_cuts d.cuts v.cuts w.cuts front next.cuts;
+      cuts = front;
+      alone = alone;
+      begun = begun;
       first_new = λ k above most. still_new m v w e (child_name slot k) next
           (owed.first_new k (omega arith) most) (neither k above most).one;
       second_new = λ k above most. still_new m v w e (child_name slot k + 1) next
           (owed.second_new k (omega arith) most) (neither k above most).two;
     }
+
+-- cuts that stand in front go on to do so
+pub still_front : (m : ModelParts) (v w : View) (e : Entry) (slot : ℕ) (c : Claim) → IsNext m v w e
+    → IsOwed m v slot c → HasCutsOf c.cuts w.cuts
+still_front m v w e slot c next owed = more_cuts c.cuts v.cuts w.cuts owed.cuts next.cuts
+
+-- and where no cut is added, a slot that adds cuts goes on to have all of them
+pub still_alone : (m : ModelParts) (v w : View) (e : Entry) (slot : ℕ) (c : Claim) → IsNext m v w e
+    → adds_cut e ≡ false → IsOwed m v slot c → c.adds ≡ true → w.cuts ≡ c.cuts
+still_alone m v w e slot c next none owed adds = next.same_cuts none ∙ owed.alone adds
+
+pub still_begun : (m : ModelParts) (v w : View) (e : Entry) (slot : ℕ) (c : Claim) → IsNext m v w e
+    → IsOwed m v slot c → c.adds ≡ true → 1 ≤ w.cut_starts
+still_begun m v w e slot c next owed adds =
+    let more = next.cut_starts in
+    let some = owed.begun adds in
+    omega arith
 
 -- what is held stays held, where the entry isn't done with it
 pub still_held : (m : ModelParts) (v w : View) (e : Entry) (o : Option Held) → IsNext m v w e
@@ -121,6 +141,19 @@ apart_cases slot i j x y d false true first second a b one other old left right 
 apart_cases slot i j x y d false false first second a b one other old left right same =
     old left right same
 
+adding_cases : (slot i j : ℕ) (x y d : Claim) (s t : Bool) → nat_eq i slot ≡ s → nat_eq j slot ≡ t
+    → ((j ≡ slot → ⊥) → d.adds ≡ true → y.adds ≡ true → ⊥)
+    → ((i ≡ slot → ⊥) → d.adds ≡ true → x.adds ≡ true → ⊥)
+    → (x.adds ≡ true → y.adds ≡ true → i ≡ j)
+    → (cond s d x).adds ≡ true → (cond t d y).adds ≡ true → i ≡ j
+adding_cases slot i j x y d true true first second one other old left right =
+    eq_from_test i slot first ∙ sym (eq_from_test j slot second)
+adding_cases slot i j x y d true false first second one other old left right =
+    absurd (one (ne_from_test j slot second) left right)
+adding_cases slot i j x y d false true first second one other old left right =
+    absurd (other (ne_from_test i slot first) right left)
+adding_cases slot i j x y d false false first second one other old left right = old left right
+
 -- a history that meets the claims after the claim of one slot changed
 pub meets_next : (m : ModelParts) (v w : View) (best better : Option Best) (slot : ℕ)
     (claims : ℕ → Claim) (d : Claim) → Meets m v best claims → FitsView m w → IsSound m w better
@@ -128,8 +161,9 @@ pub meets_next : (m : ModelParts) (v w : View) (best better : Option Best) (slot
     → ((j : ℕ) → (j ≡ slot → ⊥) → IsOwed m w j (claims j))
     → ((j : ℕ) (a b : Held) → (j ≡ slot → ⊥) → d.hold ≡ Some a → (claims j).hold ≡ Some b
     → a.name ≡ b.name → ⊥)
+    → ((j : ℕ) → (j ≡ slot → ⊥) → d.adds ≡ true → (claims j).adds ≡ true → ⊥)
     → Meets m w better (claims_with claims slot d)
-meets_next m v w best better slot claims d meets fits sound once own others apart = record {
+meets_next m v w best better slot claims d meets fits sound once own others apart adding = record {
   fits = fits;
   sound = sound;
   once = once;
@@ -137,4 +171,7 @@ meets_next m v w best better slot claims d meets fits sound once own others apar
   apart = λ i j a b left right same. apart_cases slot i j (claims i) (claims j) d (nat_eq i slot)
       (nat_eq j slot) refl refl a b (λ other. apart j a b other) (λ other. apart i b a other)
       (meets.apart i j a b) left right same;
+  adding = λ i j left right. adding_cases slot i j (claims i) (claims j) d (nat_eq i slot)
+      (nat_eq j slot) refl refl (λ other. adding j other) (λ other. adding i other)
+      (meets.adding i j) left right;
 }

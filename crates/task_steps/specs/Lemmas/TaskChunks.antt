@@ -25,7 +25,7 @@ use Rattle.task_steps.specs.Tasks.{child_name, closing_chunk, end_entries, kept_
 use Rattle.task_steps.specs.declared.keep.Keep.{Keep}
 use Rattle.task_steps.specs.declared.keep.Keep.TheVariants.{Low, High, Neither}
 use Rattle.task_steps.specs.declared.local.Local.{Local}
-use Rattle.task_steps.specs.declared.local.Task.{Task}
+use Rattle.task_steps.specs.declared.local.NodeTask.{NodeTask}
 use Rattle.task_steps.specs.declared.task_chunk.TaskChunk.{TaskChunk}
 use Rattle.task_steps.specs.declared.task_chunk.Progress.{Progress}
 use Rattle.task_steps.specs.declared.task_chunk.Worker.{Worker}
@@ -44,14 +44,14 @@ paired_high s col at paired =
     }
 
 -- the claim holds the node of a task
-pub record IsOnNode (c : Claim) (task : Task) : Type 0 where
+pub record IsOnNode (c : Claim) (task : NodeTask) : Type 0 where
   pub node : Held
   pub is : c.hold ≡ Some node
   pub named : node.name ≡ task.node
   pub boxed : node.bounds ≡ task.bounds
 
 -- entries of a chunk on a task, with the cutoff of the moment, and the local afterwards
-pub record IsGood (m : ModelParts) (l : Local) (task : Task) (limit : ℤ) (entries : List Entry)
+pub record IsGood (m : ModelParts) (l : Local) (task : NodeTask) (limit : ℤ) (entries : List Entry)
     (after : Local) : Type 0 where
   pub fits : FitsLocal m after
   pub words : HaveWords entries
@@ -64,13 +64,13 @@ local_after l chunk = record l { splits = chunk.splits; task = chunk.task }
 
 -- words
 
-words_more : (e : Entry) (es : List Entry) → HasWords e → HaveWords es → HaveWords (e ∷ es)
+pub words_more : (e : Entry) (es : List Entry) → HasWords e → HaveWords es → HaveWords (e ∷ es)
 words_more e es here rest = record { each = All-cons HasWords e es here rest.each }
 
-no_words : HaveWords []
+pub no_words : HaveWords []
 no_words = record { each = All-nil HasWords }
 
-done_words : HaveWords (Done ∷ [])
+pub done_words : HaveWords (Done ∷ [])
 done_words = words_more Done [] (record { writable = tt; in_range = tt }) no_words
 
 end_words : (keep : Keep) → HaveWords (end_entries keep)
@@ -84,7 +84,7 @@ keep_few High = omega arith
 keep_few Neither = omega arith
 
 -- the node is closed
-pub closing_good : (m : ModelParts) (l : Local) (task : Task) (limit : ℤ) → FitsLocal m l
+pub closing_good : (m : ModelParts) (l : Local) (task : NodeTask) (limit : ℤ) → FitsLocal m l
     → IsTask m task → IsClosed m limit task.bounds
     → IsGood m l task limit (Closed task.node ∷ Done ∷ []) (record l { task = None })
 closing_good m l task limit fits task_fits closed = record {
@@ -118,7 +118,7 @@ low_goes_on e = cc
 high_goes_on : High ≡ Neither → ⊥
 high_goes_on e = cc
 
-task_after_fits : (m : ModelParts) (task : Task) (col : ℕ) (at : ℤ) (first : ℕ) (limit : ℤ)
+task_after_fits : (m : ModelParts) (task : NodeTask) (col : ℕ) (at : ℤ) (first : ℕ) (limit : ℤ)
     (keep : Keep) → first + 1 < 2 ^ 64 → limit ≤ℤ pos (2 ^ 51) → IsTask m task
     → (keep ≡ Neither) ⊎ (task.nodes + 1 ≤ 8) → FitsTask m (task_after task col at first limit keep)
 task_after_fits m task col at first limit Low word below fits (inl ends) = absurd (low_goes_on ends)
@@ -146,7 +146,7 @@ task_after_fits m task col at first limit High word below fits (inr room) =
     }
 task_after_fits m task col at first limit Neither word below fits room = tt
 
-split_now : (m : ModelParts) (l : Local) (task : Task) (col : ℕ) (at : ℤ) (keep slot : ℕ)
+split_now : (m : ModelParts) (l : Local) (task : NodeTask) (col : ℕ) (at : ℤ) (keep slot : ℕ)
     (c : Claim) → IsSplitPoint m col at keep → FitsLocal m l → l.slot ≡ slot → l.splits ≡ c.splits
     → IsOnNode c task
     → IsSplitNow m slot c task.node col at (child_name l.slot (next_ordinal l.splits)) keep
@@ -157,7 +157,7 @@ split_now m l task col at keep slot c cut fits own same on = record {
   named = ap₂ (λ (s k : ℕ). child_name s (next_ordinal k)) own same;
 }
 
-kept_ready : (m : ModelParts) (l : Local) (task : Task) (limit : ℤ) (col : ℕ) (at bound : ℤ)
+kept_ready : (m : ModelParts) (l : Local) (task : NodeTask) (limit : ℤ) (col : ℕ) (at bound : ℤ)
     (keep : Keep) (slot : ℕ) (c : Claim) → IsSplitPoint m col at (number_of keep) → FitsLocal m l
     → FitsLocal m
     (record l {
@@ -223,7 +223,7 @@ kept_ready m l task limit col at bound Neither slot c cut fits after own same on
       ),
     )
 
-splitting_good : (m : ModelParts) (l : Local) (task : Task) (limit : ℤ) (col : ℕ) (at bound : ℤ)
+splitting_good : (m : ModelParts) (l : Local) (task : NodeTask) (limit : ℤ) (col : ℕ) (at bound : ℤ)
     (keep : Keep) → IsModel m → FitsLocal m l → IsTask m task
     → IsSplitPoint m col at (number_of keep) → IsSigned bound → limit ≤ℤ pos (2 ^ 51)
     → (keep ≡ Neither) ⊎ (task.nodes + 1 ≤ 8)
@@ -269,7 +269,7 @@ splitting_good m l task limit col at bound keep valid fits task_fits cut signed 
     }
 
 -- a point is found first
-found_good : (m : ModelParts) (l : Local) (task : Task) (limit value : ℤ) (point : List ℤ)
+found_good : (m : ModelParts) (l : Local) (task : NodeTask) (limit value : ℤ) (point : List ℤ)
     (es : List Entry) (after : Local) → IsValued m value point → HasWords (Found value point)
     → IsGood m l task value es after → IsGood m l task limit (Found value point ∷ es) after
 found_good m l task limit value point es after valued words good = record {
@@ -296,7 +296,7 @@ kept_room nodes value at few = room_cases value at nodes (nodes == 8) few refl
 abbrev pub worker_of : Local → Worker
 worker_of l = record { slot = l.slot; splits = l.splits }
 
-abbrev pub IsGoodChunk : ModelParts → Local → Task → ℤ → TaskChunk → Type 0
+abbrev pub IsGoodChunk : ModelParts → Local → NodeTask → ℤ → TaskChunk → Type 0
 IsGoodChunk m l task limit o = IsGood m l task limit o.entries (local_after l o)
 
 not_below : (a b : ℤ) → int_le a b ≡ false → b <ℤ a
@@ -307,7 +307,7 @@ bound_signed : (bound limit : ℤ) → neg_ℤ (pos (2 ^ 62)) ≤ℤ bound → b
 bound_signed bound limit low below few = fits_signed_from_abs w64 bound (omega (arith, ints))
 
 -- what is known of a node once its point was tried, at the cutoff of the moment
-pub record IsTried (m : ModelParts) (l : Local) (task : Task) (p : Progress) (a : Ascent)
+pub record IsTried (m : ModelParts) (l : Local) (task : NodeTask) (p : Progress) (a : Ascent)
     (limit : ℤ) : Type 0 where
   pub fits : FitsLocal m l
   pub task_fits : IsTask m task
@@ -318,7 +318,7 @@ pub record IsTried (m : ModelParts) (l : Local) (task : Task) (p : Progress) (a 
   pub closed : limit ≤ℤ a.bound → IsClosed m limit task.bounds
   pub some : a.bound <ℤ limit → 0 < length m.cols
 
-split_good : (m : ModelParts) (l : Local) (task : Task) (p : Progress) (a : Ascent) (limit : ℤ)
+split_good : (m : ModelParts) (l : Local) (task : NodeTask) (p : Progress) (a : Ascent) (limit : ℤ)
     → IsModel m → IsTried m l task p a limit → int_le limit a.bound ≡ false
     → IsGoodChunk m l task limit
     (splitting_chunk task (worker_of l) [] limit p.work (widest p.bounds)
@@ -345,7 +345,7 @@ split_good m l task p a limit valid tried is =
     (kept_room task.nodes (int_at a.point col) at tried.task_fits.nodes)
 
 -- with no point found
-pub plain_good : (m : ModelParts) (l : Local) (task : Task) (p : Progress) (a : Ascent) (limit : ℤ)
+pub plain_good : (m : ModelParts) (l : Local) (task : NodeTask) (p : Progress) (a : Ascent) (limit : ℤ)
     (closed : Bool) → int_le limit a.bound ≡ closed → IsModel m → IsTried m l task p a limit
     → IsGoodChunk m l task limit
     (cond closed
@@ -360,7 +360,7 @@ plain_good m l task p a limit true is valid tried =
 plain_good m l task p a limit false is valid tried = split_good m l task p a limit valid tried is
 
 -- with a point found first, whose value is the cutoff from then on
-pub found_first : (m : ModelParts) (l : Local) (task : Task) (p : Progress) (a : Ascent) (value : ℤ)
+pub found_first : (m : ModelParts) (l : Local) (task : NodeTask) (p : Progress) (a : Ascent) (value : ℤ)
     (point : List ℤ) (closed : Bool) → int_le value a.bound ≡ closed → IsModel m
     → IsTried m l task p a value → IsValued m value point → HasWords (Found value point)
     → IsGoodChunk m l task task.cutoff

@@ -29,7 +29,7 @@ use Rattle.task_steps.specs.Fits.{FitsLocal, IsTask}
 use Rattle.task_steps.specs.Points.{is_feasible_at}
 use Rattle.task_steps.specs.Tasks.{after_passes, ascent_of, is_found, node_chunk, on_point, progress_of}
 use Rattle.task_steps.specs.declared.local.Local.{Local}
-use Rattle.task_steps.specs.declared.local.Task.{Task}
+use Rattle.task_steps.specs.declared.local.NodeTask.{NodeTask}
 use Rattle.task_steps.specs.declared.task_chunk.Progress.{Progress}
 use Rattle.task_steps.specs.Lemmas.Bounds.{ascent_above, ascent_low}
 use Rattle.task_steps.specs.Lemmas.Boxes.{passed_small}
@@ -82,7 +82,7 @@ column_cases m s limit a settled below (inl none) =
     absurd (omega (arith, ints, settled none, below))
 column_cases m s limit a settled below (inr some) = some
 
-module _ (m : ModelParts) (l : Local) (task : Task) (valid : IsModel m) (paired : IsPaired m.root)
+module _ (m : ModelParts) (l : Local) (task : NodeTask) (valid : IsModel m) (paired : IsPaired m.root)
     (fits : FitsLocal m l) (task_fits : IsTask m task) where
   abbrev passes : Propagation
   passes = propagation_of m.rows l.cuts task.bounds
