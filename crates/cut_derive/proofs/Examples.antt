@@ -6,13 +6,10 @@ use Rattle.ip_core.specs.declared.row.Row.{Row}
 use Rattle.ip_core.specs.declared.row_ref.RowRef.TheVariants.{Model, Cut}
 use Rattle.ip_core.specs.declared.derivation.Derivation.TheVariants.{Gomory, Cover}
 use Rattle.cut_derive.specs.Derivations.{derived_row}
-use Rattle.cut_derive.specs.Candidates.{divisors_of, cover_of}
-use Rattle.cut_derive.specs.Separation.{separated_cuts}
-use Rattle.cut_derive.specs.declared.new_cut.NewCut.{NewCut}
 use Rattle.cut_derive.specs.declared.refusal.Refusal.TheVariants.{UnknownRow, BadNumbers, NotBinary, NotCover}
 
 -- a model of some columns with a box and rows, and no costs
-abbrev model : List (List ℕ) → Sides → List Row → ModelParts
+abbrev pub model : List (List ℕ) → Sides → List Row → ModelParts
 model cols root rows = record { name = 109 ∷ []; cols = cols; costs = []; constant = pos 0; decimals = 0; maximise = false; root = root; rows = rows }
 
 -- two columns from 0 to 1, with 2x + 2y >= 3
@@ -48,28 +45,3 @@ shifted = model ((120 ∷ []) ∷ []) (record { lows = pos 2 ∷ []; highs = pos
 
 rounded_above_lows : derived_row shifted [] (Gomory (record { row = Model 0; weight = 1 } ∷ []) 2) ≡ Ok (record { terms = record { col = 0; coef = pos 2 } ∷ []; least = pos 5 })
 rounded_above_lows = refl
-
--- one column from 0 to 5 with 2x >= 3
-abbrev single : ModelParts
-single = model ((120 ∷ []) ∷ []) (record { lows = pos 0 ∷ []; highs = pos 5 ∷ [] }) (record { terms = record { col = 0; coef = pos 2 } ∷ []; least = pos 3 } ∷ [])
-
-abbrev own_cut : NewCut
-own_cut = record { derivation = Gomory (record { row = Model 0; weight = 1 } ∷ []) 2; row = record { terms = record { col = 0; coef = pos 1 } ∷ []; least = pos 2 } }
-
-abbrev combined_cut : NewCut
-combined_cut = record { derivation = Gomory (record { row = Model 0; weight = 512 } ∷ []) 2048; row = record { terms = record { col = 0; coef = pos 1 } ∷ []; least = pos 1 } }
-
-separated : separated_cuts single [] (pos 0 ∷ []) (512 ∷ []) ≡ own_cut ∷ combined_cut ∷ []
-separated = refl
-
--- a coefficient of 1 takes up no place among the divisors
-divided : divisors_of (record { terms = record { col = 0; coef = pos 1 } ∷ record { col = 1; coef = negsuc 2 } ∷ record { col = 2; coef = pos 3 } ∷ record { col = 3; coef = pos 2 } ∷ []; least = pos 0 }) ≡ 3 ∷ 2 ∷ []
-divided = refl
-
--- 5x + 3y + 4z at their bad ends, where the row leaves 6: x and z are more
-taken_most : cover_of (pos 6) (Model 0) (record { col = 0; coef = pos 5 } ∷ record { col = 1; coef = pos 3 } ∷ record { col = 2; coef = negsuc 3 } ∷ []) ≡ Cover (Model 0) (0 ∷ 2 ∷ []) ∷ []
-taken_most = refl
-
--- all of them together are no more than 12
-taken_none : cover_of (pos 12) (Model 0) (record { col = 0; coef = pos 5 } ∷ record { col = 1; coef = pos 3 } ∷ record { col = 2; coef = negsuc 3 } ∷ []) ≡ []
-taken_none = refl

@@ -13,9 +13,3 @@ pub mod Summing
 pub mod Gomorying
 pub mod Walking
 pub mod Choosing
-pub mod Keeping
-pub mod Nearness
-pub mod Trying
-pub mod Taking
-pub mod Separating
-pub mod Violating

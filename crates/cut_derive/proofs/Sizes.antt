@@ -1,5 +1,5 @@
 -- How large the numbers of a weighted sum can become, and sums of 128 bits in loops.
-use Rattle.std.proofs.Common.{◌≡◌, ◌≢◌, ◌∙◌, ℕ, ◌+◌, ◌*◌, ◌^◌, ◌<◌, ◌≤◌, List, length, get_or, take, ℤ, pos, ◌+ℤ◌, ◌*ℤ◌, unsigned_abs, FitsSigned, to_z, of_z, sym, ap₂, arith, le_trans, mul-le-mul_left, mul-le-mul_right}
+use Rattle.std.proofs.Common.{◌≡◌, ◌≢◌, ◌∙◌, ℕ, ◌+◌, ◌*◌, ◌^◌, ◌<◌, ◌≤◌, List, length, get_or, take, ℤ, pos, ◌+ℤ◌, ◌*ℤ◌, unsigned_abs, FitsSigned, to_z, of_z, refl, sym, ap₂, arith, le_trans, mul-le-mul_left, mul-le-mul_right}
 use Rattle.std.specs.Int.{w128}
 use Rattle.std.proofs.lemmas.Int.{ints, to_z-of_z, unsigned_abs-mul}
 use Rattle.ip_core.specs.Numbers.{int_at, int_sum_by, int_sum_below, sum_below}
@@ -14,6 +14,7 @@ use Rattle.safe_bound.specs.Premises.{shares_width}
 use Rattle.safe_bound.proofs.Sizes.{small_fits}
 use Rattle.safe_bound.proofs.Shares.{part_within_sum}
 use Rattle.cut_derive.specs.Gomory.{rounded_coefficient, low_sum}
+use Rattle.cut_derive.specs.Premises.{AreNear}
 
 positive_apart : (d : ℕ) → 0 < d → pos d ≢ pos 0
 positive_apart d above = λ e. absurd (omega (arith, ints, above, e))
@@ -101,3 +102,7 @@ value_product s values c d j near smaller =
 pub value_sum_small : (s : Sides) (coefs values : List ℤ) (a : ℕ → ℤ) (i : ℕ) → ((j : ℕ) → unsigned_abs (int_at values j) ≤ reach s j) → ((j : ℕ) → unsigned_abs (a j) ≤ unsigned_abs (int_at coefs j)) → i ≤ length s.lows → unsigned_abs (int_sum_below i (λ j. a j *ℤ int_at values j)) ≤ shares_width s coefs
 value_sum_small s coefs values a i near smaller few =
     omega (arith, unsigned_abs-int_sum_below i (λ j. a j *ℤ int_at values j) (λ j. unsigned_abs (int_at coefs j) * reach s j) (λ j h. value_product s values (a j) (int_at coefs j) j (near j) (smaller j)), sum_below_front i (length s.lows) (λ j. unsigned_abs (int_at coefs j) * reach s j) few)
+
+-- the lows of a box are within its reach
+pub lows_near : (s : Sides) → AreNear s s.lows
+lows_near s = record { columns = refl; each = λ j. omega arith }

@@ -4,8 +4,4 @@ pub mod Covers
 pub mod Chosen
 pub mod Derivations
 pub mod Premises
-pub mod Violations
-pub mod Candidates
-pub mod Thresholds
-pub mod Separation
 pub mod Laws

@@ -94,7 +94,7 @@ fn is_fit(root: &Bounds, term: &Term) -> bool
     term.coef != 0 && is_binary(root, term.col)
 }
 
-/// Whether the range of a column is 0 to 1.
+/// Whether the range of a column is 0 to 1. A column that isn't in the box has none.
 pub fn is_binary(root: &Bounds, col: u32) -> bool
     ensures { result ≡ is_binary_of root.now col }
 {

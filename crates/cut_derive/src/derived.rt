@@ -31,7 +31,8 @@ pub fn derive(
     }
 }
 
-/// The row that a derivation gives, or the first reason that refuses it.
+/// The row that a derivation gives from rows of the model and the cuts, or the first reason that refuses it. The only
+/// error is want of memory.
 pub fn derived_row(
     alloc: Global,
     model: &Model,

@@ -1,4 +1,4 @@
-ghost use Rattle.cut_derive.specs.Laws.{DerivedAreCutRows, DerivedAreValid, DerivedOverMore, DerivedRowIsCut, DerivedRowIsMet, NewCutsAreDerived, SeparatedAreNew};
+ghost use Rattle.cut_derive.specs.Laws.{DerivedAreCutRows, DerivedAreValid, DerivedOverMore, DerivedRowIsCut, DerivedRowIsMet};
 
 /// A law with nothing to run: a feasible point that meets the cuts meets each row that is derived over them.
 pub fn derived_row_is_met()
@@ -24,16 +24,4 @@ pub fn derived_are_cut_rows()
 /// A law with nothing to run: each feasible point meets cuts that were derived one after the other.
 pub fn derived_are_valid()
     ensures { DerivedAreValid }
-{}
-
-/// A law with nothing to run: each separated cut has the row that its derivation gives, there are at most 16 of them,
-/// and they don't lead past 512 cuts together.
-pub fn separated_are_new()
-    ensures { SeparatedAreNew }
-{}
-
-/// A law with nothing to run: with the rows of new cuts behind them, cuts that were derived one after the other still
-/// are.
-pub fn new_cuts_are_derived()
-    ensures { NewCutsAreDerived }
 {}

@@ -4,38 +4,30 @@
 //! first reason that refuses it, whoever made it.
 #![tactic(auto)]
 
-mod activity;
 mod chosen;
-mod combined_cuts;
 mod cover;
-mod cover_cuts;
 mod derived;
-mod divisors;
 mod error;
 mod gomory;
-mod keep;
 mod laws;
 mod limits;
-mod new_cut;
 mod numbers;
-mod own_cuts;
 mod refusal;
 mod rounding;
 mod rows;
-mod separation;
-mod source;
 mod sums;
 #[cfg(test)]
 mod tests;
-mod violation;
 
-pub use derived::derive;
+pub use cover::{is_binary, slack};
+pub use derived::{derive, derived_row};
 pub use error::CutError;
 pub use laws::{
     derived_are_cut_rows, derived_are_valid, derived_over_more, derived_row_is_cut,
-    derived_row_is_met, new_cuts_are_derived, separated_are_new,
+    derived_row_is_met,
 };
-pub use limits::{MAX_CUT_TERMS, MAX_CUTS, MAX_DIVISOR, MAX_NEW_CUTS, MAX_PARTS};
-pub use new_cut::NewCut;
+pub use limits::{MAX_CUT_TERMS, MAX_CUTS, MAX_DIVISOR, MAX_PARTS};
+pub use numbers::is_count;
 pub use refusal::Refusal;
-pub use separation::separate;
+pub use rounding::{round_up, rounded_least, rounded_sum};
+pub use sums::{combined_coefficients, combined_least};

@@ -7,11 +7,7 @@ pub const MAX_PARTS: usize = 256;
 /// The most terms of a derived row.
 pub const MAX_CUT_TERMS: usize = 256;
 
-/// The most divisors of a row that are tried.
-pub const MAX_DIVISORS: usize = 8;
-
-/// The most cuts that one call of `separate` gives.
-pub const MAX_NEW_CUTS: usize = 16;
-
-/// The most cuts together with which one more is given.
+/// The most cuts of a search. `derive` doesn't look at it, and a certificate may have more: it is the search for cuts
+/// (`separate` of the crate `cut_separate`) that gives none past it, and the definition of a history (`MayFollow` of the
+/// crate `node_pool`) that lets an entry with a cut follow only while there are fewer.
 pub const MAX_CUTS: usize = 512;

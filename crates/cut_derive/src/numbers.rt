@@ -42,7 +42,7 @@ fn is_divisor(divisor: u64) -> bool
     1 <= divisor && divisor <= MAX_DIVISOR
 }
 
-/// Whether a number of parts or columns is 1 to 256.
+/// Whether a derivation may have this number of parts or columns: 1 to 256.
 pub fn is_count(number: usize) -> bool
     ensures { result ≡ is_count_of number }
 {

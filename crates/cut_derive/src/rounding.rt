@@ -10,7 +10,8 @@ ghost use Rattle.cut_derive.specs.Premises.{AreNear, IsNarrowSum};
 use ip_core::{Bounds, List, MAX_COLUMNS, MAX_WIDTH, OutOfMemory, Term};
 use std::alloc::Global;
 
-/// What coefficients ask for above the lows of the box, divided and rounded up, and then from 0 again.
+/// What coefficients, one for each column, ask for above the lows of the box, divided and rounded up, and then from 0
+/// again.
 pub fn rounded_least(coefs: &[i128], least: i128, divisor: u64, root: &Bounds) -> i128
     requires above { 0 < divisor }
     requires narrow { IsNarrowSum root.now coefs.now least }
@@ -71,7 +72,8 @@ fn rounded_low_sum(coefs: &[i128], divisor: u64, root: &Bounds) -> i128
     rounded_sum(coefs, divisor, root, root.lows())
 }
 
-/// What coefficients, divided and rounded up, give at values within the reach of the box.
+/// What coefficients, one for each column, give at values within the reach of the box, once they are divided and rounded
+/// up.
 pub fn rounded_sum(coefs: &[i128], divisor: u64, root: &Bounds, values: &[i64]) -> i128
     requires above { 0 < divisor }
     requires columns { length coefs.now ≡ length root.now.lows }

@@ -10,7 +10,7 @@ use ip_core::{Model, OutOfMemory, Pair, Row, Term};
 use safe_bound::MAX_MULTIPLIER;
 use std::alloc::Global;
 
-/// The coefficient of each column in the weighted sum of the rows.
+/// The coefficient of each column of the model in the weighted sum of the parts' rows. The only error is want of memory.
 pub fn combined_coefficients(
     alloc: Global,
     model: &Model,
@@ -73,7 +73,7 @@ fn weighted(weight: u64, number: i64) -> i128
     i128::from(weight) * i128::from(number)
 }
 
-/// What the weighted sum of the rows asks for.
+/// What the weighted sum of the parts' rows asks for.
 pub fn combined_least(model: &Model, cuts: &[Row], parts: &[Pair]) -> i128
     requires cuts { AreCuts model.now cuts.now }
     requires parts { AreParts model.now cuts.now parts.now }

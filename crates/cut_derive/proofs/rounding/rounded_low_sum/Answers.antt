@@ -1,4 +1,4 @@
-use Rattle.cut_derive.proofs.Nearness.{lows_near}
+use Rattle.cut_derive.proofs.Sizes.{lows_near}
 use Rattle.cut_derive.proofs.rounding.rounded_low_sum.Goals as goal
 
 pub rounded_sum-requires-clause-near : goal.rounded_sum-requires-clause-near

@@ -1,7 +1,0 @@
-use Rattle.std.proofs.Common.{◌≡◌, take}
-use Rattle.std.specs.List.{filter}
-use Rattle.cut_derive.specs.Candidates.{is_bad}
-use Rattle.cut_derive.proofs.cover_cuts.bad_terms.Given as goal
-
-abbrev pub invariant-loop-term : goal.invariant-loop-term
-invariant-loop-term l = l.bad ≡ filter (is_bad l.root l.point) (take l.term-index l.row.terms)

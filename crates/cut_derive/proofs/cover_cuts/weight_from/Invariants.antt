@@ -1,6 +1,0 @@
-use Rattle.std.proofs.Common.{◌≡◌, take}
-use Rattle.cut_derive.specs.Thresholds.{weight_from}
-use Rattle.cut_derive.proofs.cover_cuts.weight_from.Given as goal
-
-abbrev pub invariant-loop-term : goal.invariant-loop-term
-invariant-loop-term l = l.sum ≡ weight_from l.low (take l.term-index l.terms)

@@ -1,6 +1,0 @@
-use Rattle.std.proofs.Common.{◌≡◌, drop}
-use Rattle.cut_derive.specs.Candidates.{divisors_after, divisors_of}
-use Rattle.cut_derive.proofs.divisors.divisors_of.Given as goal
-
-abbrev pub invariant-loop-term : goal.invariant-loop-term
-invariant-loop-term l = divisors_after l.found (drop l.term-index l.row.terms) ≡ divisors_of l.row

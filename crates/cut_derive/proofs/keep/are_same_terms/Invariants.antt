@@ -1,6 +1,0 @@
-use Rattle.std.proofs.Common.{◌≡◌, drop}
-use Rattle.cut_derive.specs.Separation.{are_same_terms}
-use Rattle.cut_derive.proofs.keep.are_same_terms.Given as goal
-
-abbrev pub invariant-loop-i : goal.invariant-loop-i
-invariant-loop-i l = are_same_terms (drop l.i l.a) (drop l.i l.b) ≡ are_same_terms l.a l.b

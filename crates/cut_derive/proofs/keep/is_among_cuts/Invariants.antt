@@ -1,6 +1,0 @@
-use Rattle.std.proofs.Common.{◌≡◌, drop}
-use Rattle.cut_derive.specs.Separation.{is_among_cuts}
-use Rattle.cut_derive.proofs.keep.is_among_cuts.Given as goal
-
-abbrev pub invariant-loop-cut : goal.invariant-loop-cut
-invariant-loop-cut l = is_among_cuts (drop l.cut-index l.kept) l.row ≡ is_among_cuts l.kept l.row

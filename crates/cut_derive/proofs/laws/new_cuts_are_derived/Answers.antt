@@ -1,5 +1,0 @@
-use Rattle.cut_derive.proofs.Separating.{new_cuts_are_derived}
-use Rattle.cut_derive.proofs.laws.new_cuts_are_derived.Goals as goal
-
-pub returns : goal.returns
-returns c = new_cuts_are_derived

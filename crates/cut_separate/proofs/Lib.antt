@@ -1,0 +1,7 @@
+pub mod Examples
+pub mod Keeping
+pub mod Nearness
+pub mod Trying
+pub mod Taking
+pub mod Separating
+pub mod Violating

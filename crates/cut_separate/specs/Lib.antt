@@ -1,0 +1,5 @@
+pub mod Violations
+pub mod Candidates
+pub mod Thresholds
+pub mod Separation
+pub mod Laws
