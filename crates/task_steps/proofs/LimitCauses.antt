@@ -44,7 +44,7 @@ use Rattle.node_pool.specs.declared.pick.Pick.TheVariants.{CutLoop, Heuristic, N
 use Rattle.node_pool.specs.declared.settings.SearchSettings.{SearchSettings}
 use Rattle.task_steps.specs.Agrees.{Agrees, MayFollowIn}
 use Rattle.task_steps.specs.Answers.{best_found, finished_status, status_of, view_status}
-use Rattle.cut_derive.specs.declared.new_cut.NewCut.{NewCut}
+use Rattle.cut_separate.specs.declared.new_cut.NewCut.{NewCut}
 use Rattle.task_steps.specs.Columns.{middle, widest}
 use Rattle.task_steps.specs.CutTasks.{cuts_after, end_of_cuts, entries_of_cuts, new_cuts}
 use Rattle.task_steps.specs.declared.local.CutTask.{CutTask}

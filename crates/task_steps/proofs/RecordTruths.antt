@@ -38,7 +38,7 @@ use Rattle.task_steps.specs.Rules.{begin_of, chunk_of, rules}
 use Rattle.task_steps.specs.CutTasks.{cuts_after, end_of_cuts, entries_of_cuts, new_cuts}
 use Rattle.task_steps.specs.Tasks.{node_chunk}
 use Rattle.task_steps.specs.declared.local.CutTask.{CutTask}
-use Rattle.cut_derive.specs.declared.new_cut.NewCut.{NewCut}
+use Rattle.cut_separate.specs.declared.new_cut.NewCut.{NewCut}
 use Rattle.ip_core.specs.declared.derivation.Derivation.{Derivation}
 use Rattle.task_steps.specs.declared.local.Local.{Local}
 use Rattle.task_steps.specs.declared.local.NodeTask.{NodeTask}

@@ -11,8 +11,8 @@ use Rattle.ip_core.specs.declared.model.ModelParts.{ModelParts}
 use Rattle.ip_core.specs.declared.row.Row.{Row}
 use Rattle.safe_bound.specs.Bounds.{bound_point, reduced_cost}
 use Rattle.cut_derive.specs.Premises.{AreNear}
-use Rattle.cut_derive.specs.Separation.{separated_cuts}
-use Rattle.cut_derive.specs.declared.new_cut.NewCut.{NewCut}
+use Rattle.cut_separate.specs.Separation.{separated_cuts}
+use Rattle.cut_separate.specs.declared.new_cut.NewCut.{NewCut}
 use Rattle.dual_ascent.specs.Ascents.{ascent, ascent_work}
 use Rattle.dual_ascent.specs.declared.ascent.Ascent.{Ascent}
 use Rattle.ip_core.specs.declared.memory.OutOfMemory.{OutOfMemory}

@@ -3,9 +3,9 @@ use Rattle.std.specs.Prelude.{ℕ, ◌+◌, ◌*◌, ◌==◌, if◌then◌else�
 use Rattle.ip_core.specs.Models.{term_count}
 use Rattle.ip_core.specs.declared.model.ModelParts.{ModelParts}
 use Rattle.ip_core.specs.declared.row.Row.{Row}
-use Rattle.cut_derive.specs.Laws.{rows_of_cuts}
-use Rattle.cut_derive.specs.Separation.{separated_cuts}
-use Rattle.cut_derive.specs.declared.new_cut.NewCut.{NewCut}
+use Rattle.cut_separate.specs.Laws.{rows_of_cuts}
+use Rattle.cut_separate.specs.Separation.{separated_cuts}
+use Rattle.cut_separate.specs.declared.new_cut.NewCut.{NewCut}
 use Rattle.work_stamp.specs.declared.entry.Entry.{Entry}
 use Rattle.work_stamp.specs.declared.entry.Entry.TheVariants.{Cut, Done}
 use Rattle.task_steps.specs.Tasks.{ascent_of}

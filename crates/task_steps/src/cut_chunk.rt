@@ -1,10 +1,10 @@
 ghost use Rattle.std.specs.Prelude.{◌≡◌, ◌≤◌, ◌+◌, ◌^◌, IfOk};
-ghost use Rattle.cut_derive.specs.Laws.{rows_of_cuts};
+ghost use Rattle.cut_separate.specs.Laws.{rows_of_cuts};
 ghost use Rattle.task_steps.specs.CutTasks.{cut_chunk as cut_chunk_of, cuts_after as cuts_after_of, cutting_chunk as cutting_chunk_of, entries_of_cuts};
 ghost use Rattle.task_steps.specs.Fits.{AreFewDerived};
 
 use crate::local::CutTask;
-use cut_derive::{NewCut, separate};
+use cut_separate::{NewCut, separate};
 use dual_ascent::ascend;
 use ip_core::{List, Model, OutOfMemory, Row, term_count};
 use std::alloc::Global;

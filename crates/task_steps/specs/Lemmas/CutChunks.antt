@@ -9,12 +9,12 @@ use Rattle.ip_core.specs.Rows.{AreRows}
 use Rattle.ip_core.specs.declared.model.ModelParts.{ModelParts}
 use Rattle.ip_core.specs.declared.row.Row.{Row}
 use Rattle.cut_derive.specs.Derivations.{derived_row}
-use Rattle.cut_derive.specs.Laws.{AreNewCuts, rows_of_cuts}
+use Rattle.cut_separate.specs.Laws.{AreNewCuts, rows_of_cuts}
 use Rattle.cut_derive.specs.declared.limits.TheConstants.{MAX_CUTS}
-use Rattle.cut_derive.specs.declared.new_cut.NewCut.{NewCut}
+use Rattle.cut_separate.specs.declared.new_cut.NewCut.{NewCut}
 use Rattle.cut_derive.specs.declared.refusal.Refusal.{Refusal}
 use Rattle.cut_derive.proofs.Following.{derived_over_more}
-use Rattle.cut_derive.proofs.Separating.{new_cuts_are_derived, separated_are_new}
+use Rattle.cut_separate.proofs.Separating.{new_cuts_are_derived, separated_are_new}
 use Rattle.node_pool.specs.Views.{with_row}
 use Rattle.work_stamp.specs.Taskers.{HaveWords}
 use Rattle.work_stamp.specs.Writable.{HasWords}

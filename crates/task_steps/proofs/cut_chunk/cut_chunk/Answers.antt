@@ -1,5 +1,5 @@
 use Rattle.std.proofs.Common.{◌∙◌, List, ℕ, ap, arith}
-use Rattle.cut_derive.specs.Separation.{separated_cuts}
+use Rattle.cut_separate.specs.Separation.{separated_cuts}
 use Rattle.task_steps.specs.Lemmas.Counts.{climb_little}
 use Rattle.task_steps.specs.Lemmas.TaskCuts.{are_cuts}
 use Rattle.task_steps.proofs.RootPoints.{chunk_is, point_long_of, point_near_of}

@@ -1,5 +1,5 @@
 use Rattle.std.proofs.Common.{◌≡◌}
-use Rattle.cut_derive.specs.Laws.{rows_of_cuts}
+use Rattle.cut_separate.specs.Laws.{rows_of_cuts}
 use Rattle.task_steps.specs.CutTasks.{entries_of_cuts}
 use Rattle.task_steps.proofs.cut_chunk.cut_lists.Given as goal
 
