@@ -34,7 +34,7 @@ use Rattle.task_steps.specs.declared.local.NodeTask.{NodeTask}
 use Rattle.task_steps.specs.declared.task_chunk.Progress.{Progress}
 use Rattle.task_steps.specs.declared.task_chunk.TaskChunk.{TaskChunk}
 use Rattle.task_steps.specs.declared.task_chunk.Worker.{Worker}
-use Rattle.task_steps.specs.Lemmas.Feasible.{le_from_test}
+use Rattle.leaf_truth.proofs.TestResults.{int_le-true}
 use Rattle.task_steps.specs.Lemmas.Reasons.{bound_leaf, outcome_leaf}
 use Rattle.task_steps.proofs.LaterViews.{up_to}
 
@@ -62,10 +62,10 @@ pub record AreOfTask (m : ModelParts) (cuts : List Row) (task : NodeTask) (chunk
 
 -- ---- entries that close no node
 
-abbrev CloseNone : List Entry → Type 0
+abbrev pub CloseNone : List Entry → Type 0
 CloseNone entries = (place name : ℕ) → at entries place ≡ Some (Closed name) → ⊥
 
-both_close_none : (xs ys : List Entry) → CloseNone xs → CloseNone ys → CloseNone (xs ++ ys)
+pub both_close_none : (xs ys : List Entry) → CloseNone xs → CloseNone ys → CloseNone (xs ++ ys)
 both_close_none xs ys first second place name there =
     by_part (at-append xs ys place (Closed name) there) where
       by_part : (at xs place ≡ Some (Closed name))
@@ -73,21 +73,21 @@ both_close_none xs ys first second place name there =
       by_part (inl here) = first place name here
       by_part (inr (later, here)) = second later name here
 
-none_close_none : CloseNone []
+pub none_close_none : CloseNone []
 none_close_none place name there = none_is_no_some (Closed name) there
 
 found_is_not_closed : (value : ℤ) (point : List ℤ) (name : ℕ)
     → Some (Found value point) ≡ Some (Closed name) → ⊥
 found_is_not_closed value point name same = cc
 
-found_closes_none : (value : ℤ) (point : List ℤ) → CloseNone (Found value point ∷ [])
+pub found_closes_none : (value : ℤ) (point : List ℤ) → CloseNone (Found value point ∷ [])
 found_closes_none value point zero name there = found_is_not_closed value point name there
 found_closes_none value point (suc place) name there = none_is_no_some (Closed name) there
 
 done_is_not_closed : (name : ℕ) → Some Done ≡ Some (Closed name) → ⊥
 done_is_not_closed name same = cc
 
-done_closes_none : CloseNone (Done ∷ [])
+pub done_closes_none : CloseNone (Done ∷ [])
 done_closes_none zero name there = done_is_not_closed name there
 done_closes_none (suc place) name there = none_is_no_some (Closed name) there
 
@@ -219,7 +219,7 @@ point_records m cuts task worker p a cutoff found none holds =
     let mid = middle p.bounds col in
     by_test (AreOfTask m cuts task) (int_le cutoff a.bound) _ _
     (λ t. closing_records m cuts task worker.splits found p
-    (Bound (pairs_of (length m.rows) a.mults)) none (holds (le_from_test cutoff a.bound t)))
+    (Bound (pairs_of (length m.rows) a.mults)) none (holds (int_le-true cutoff a.bound t)))
     (λ t. splitting_records m cuts task worker found cutoff p.work col mid
     (kept_child task.nodes (int_at a.point col) mid) a.bound none)
 

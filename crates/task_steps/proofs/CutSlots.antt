@@ -1,6 +1,5 @@
 -- What a slot that looks for cuts leaves after a chunk.
 use Rattle.std.proofs.Common.{◌≡◌, ◌∙◌, ℕ, List, [], ◌++◌, Option, Some, sym, ap, ap₂, subst}
-use Rattle.ip_core.specs.declared.leaf.Record.{Record}
 use Rattle.ip_core.specs.declared.model.ModelParts.{ModelParts}
 use Rattle.ip_core.specs.declared.row.Row.{Row}
 use Rattle.work_stamp.specs.declared.task.Chunk.{Chunk}
@@ -21,17 +20,12 @@ module _ (m : ModelParts) (l : Local) (task : Task) (own : CutTask) (cuts : List
   same : chunk ≡ cut_chunk m l.cuts own.chunks
   same = value ∙ ap (λ (cs : List Row). cut_chunk m cs own.chunks) seen
 
-  pub gives_is : (records : List Record) → records ≡ [] → (gives : Chunk)
-      → gives ≡ record { entries = chunk.entries; records = records; work = chunk.work }
+  pub gives_is : (gives : Chunk)
+      → gives ≡ record { entries = chunk.entries; records = []; work = chunk.work }
       → gives ≡ (chunk_of m l l.task).gives
-  gives_is records none gives is =
+  gives_is gives is =
       subst (λ (o : Option Task). gives ≡ (chunk_of m l o).gives) on_cuts
-      (is ∙ ap (λ (rs : List Record). record {
-        entries = chunk.entries;
-        records = rs;
-        work = chunk.work;
-      }) none
-      ∙ ap (λ (ch : CutChunk). record { entries = ch.entries; records = []; work = ch.work }) same)
+      (is ∙ ap (λ (ch : CutChunk). record { entries = ch.entries; records = []; work = ch.work }) same)
 
   pub local_is : (rows : List Row) (next : Option Task) (after : Local)
       → rows ≡ l.cuts ++ chunk.cuts → next ≡ cut_task chunk.task

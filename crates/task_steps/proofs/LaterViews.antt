@@ -22,8 +22,8 @@ use Rattle.node_pool.specs.declared.settings.SearchSettings.{SearchSettings}
 use Rattle.task_steps.specs.Agrees.{MayFollowIn}
 use Rattle.task_steps.specs.Lemmas.Entries.{IsNext, base_of, makes, next_of}
 
--- The view `w` after further entries. Known names have kept their boxes, cuts stay, and the cutoff is at most
--- what it was, and at most each value that these entries find.
+-- The view `w` after further entries. Known names have kept their boxes, cuts stay, and the cutoff
+-- is at most what it was, and at most each value that these entries find.
 pub record IsLater (m : ModelParts) (v w : View) (entries : List KeyedEntry) : Type 0 where
   pub boxes : (name : ℕ) → is_known v name ≡ true
       → box_of m.root w.branches name ≡ box_of m.root v.branches name

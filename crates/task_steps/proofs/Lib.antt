@@ -1,8 +1,10 @@
 pub mod WorkedRows
 pub mod WorkedRuns
+pub mod WorkedDives
 pub mod Histories
 pub mod Truths
 pub mod Picking
+pub mod DiveEntries
 pub mod LimitCauses
 pub mod ChunkRecords
 pub mod LaterViews

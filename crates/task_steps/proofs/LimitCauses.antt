@@ -2,7 +2,7 @@
 use Rattle.std.proofs.Common.{◌≡◌, ◌∙◌, ℕ, zero, suc, ◌+◌, ◌≤◌, ◌⊎◌, inl, inr, Bool, true, false, ◌&&◌, ◌||◌, nat_eq, if◌then◌else◌, List, [], ◌∷◌, ◌++◌, length, map, Option, Some, None, ℤ, refl, sym, ap, subst, arith}
 use Rattle.std.specs.List.{list_any}
 use Rattle.std.specs.Prelude.{int_le}
-use Rattle.std.proofs.lemmas.Bool.{false≢true}
+use Rattle.std.proofs.lemmas.Bool.{and_parts, false≢true}
 use Rattle.std.proofs.lemmas.Option.{none-some, same_Some}
 use Rattle.ip_core.specs.Sides.{IsPaired}
 use Rattle.ip_core.specs.Models.{IsModel}
@@ -42,10 +42,12 @@ use Rattle.node_pool.specs.declared.node.OpenNode.{OpenNode}
 use Rattle.node_pool.specs.declared.pick.Pick.{Pick}
 use Rattle.node_pool.specs.declared.pick.Pick.TheVariants.{CutLoop, Heuristic, Node, Nothing, Over}
 use Rattle.node_pool.specs.declared.settings.SearchSettings.{SearchSettings}
+use Rattle.task_steps.proofs.DiveEntries.{AreOfDive, Ends, GoesOn, IsTrial, NoPoint, OnePoint, dive_gives}
 use Rattle.task_steps.specs.Agrees.{Agrees, MayFollowIn}
 use Rattle.task_steps.specs.Answers.{best_found, finished_status, status_of, view_status}
 use Rattle.cut_separate.specs.declared.new_cut.NewCut.{NewCut}
 use Rattle.task_steps.specs.Columns.{middle, widest}
+use Rattle.task_steps.specs.DiveTasks.{dive_chunk}
 use Rattle.task_steps.specs.CutTasks.{cuts_after, end_of_cuts, entries_of_cuts, new_cuts}
 use Rattle.task_steps.specs.declared.local.CutTask.{CutTask}
 use Rattle.task_steps.specs.Fits.{FitsLocal, FitsView}
@@ -66,11 +68,10 @@ use Rattle.task_steps.specs.declared.task_chunk.TaskChunk.{TaskChunk}
 use Rattle.task_steps.specs.declared.task_chunk.Progress.{Progress}
 use Rattle.task_steps.specs.declared.task_chunk.Worker.{Worker}
 use Rattle.task_steps.specs.Lemmas.Entries.{base_of}
-use Rattle.task_steps.specs.Lemmas.Feasible.{and_true}
 use Rattle.task_steps.specs.Lemmas.Histories.{same_view}
 use Rattle.task_steps.specs.Lemmas.NameCounts.{eq_from_test}
 use Rattle.task_steps.proofs.Truths.{law, same_status}
-use Rattle.task_steps.specs.declared.local.Task.TheVariants.{Nodes, Cuts}
+use Rattle.task_steps.specs.declared.local.Task.TheVariants.{Nodes, Cuts, Dive}
 
 -- ---- whether a Halt stands, entry by entry
 
@@ -81,7 +82,8 @@ children_halt v low high (suc zero) = refl
 children_halt v low high (suc (suc more)) = refl
 
 -- an entry that is no Halt leaves it as it was whether one stands
-entry_halt : (m : ModelParts) (v : View) (e : Entry) → is_halt e ≡ false → (after_entry m v e).has_halt ≡ v.has_halt
+entry_halt : (m : ModelParts) (v : View) (e : Entry) → is_halt e ≡ false
+    → (after_entry m v e).has_halt ≡ v.has_halt
 entry_halt m v (Start node) none = refl
 entry_halt m v CutStart none = refl
 entry_halt m v (HeurStart node) none = refl
@@ -160,7 +162,8 @@ end_quiet Low = refl
 end_quiet High = refl
 end_quiet Neither = refl
 
-splitting_quiet : (task : NodeTask) (worker : Worker) (found : List Entry) (cutoff : ℤ) (work col : ℕ)
+splitting_quiet : (task : NodeTask) (worker : Worker) (found : List Entry) (cutoff : ℤ)
+    (work col : ℕ)
     (at : ℤ) (keep : Keep) (bound : ℤ) → has_halt found ≡ false
     → IsQuiet (splitting_chunk task worker found cutoff work col at keep bound)
 splitting_quiet task worker found cutoff work col at keep bound h =
@@ -189,7 +192,8 @@ on_point_quiet m task worker p a true =
     (Found (value_at m a.point) a.point ∷ []) refl
 on_point_quiet m task worker p a false = after_point_quiet m task worker p a task.cutoff [] refl
 
-passes_quiet : (m : ModelParts) (cuts : List Row) (task : NodeTask) (worker : Worker) (p : Propagation) (o : Ended)
+passes_quiet : (m : ModelParts) (cuts : List Row) (task : NodeTask) (worker : Worker)
+    (p : Propagation) (o : Ended)
     → IsQuiet (after_passes m cuts task worker p o)
 passes_quiet m cuts task worker p ended.Open =
     let a = ascent_of m cuts p.sides in
@@ -208,6 +212,16 @@ cuts_end_quiet : (o : Option CutTask) → has_halt (end_of_cuts o) ≡ false
 cuts_end_quiet None = refl
 cuts_end_quiet (Some task) = refl
 
+trial_quiet : (found tail : List Entry) → IsTrial found → has_halt tail ≡ false
+    → has_halt (found ++ tail) ≡ false
+trial_quiet _ tail NoPoint none = none
+trial_quiet _ tail (OnePoint value x) none = none
+
+dive_quiet : (es : List Entry) → AreOfDive es → has_halt es ≡ false
+dive_quiet _ (GoesOn _ NoPoint) = refl
+dive_quiet _ (GoesOn _ (OnePoint value x)) = refl
+dive_quiet _ (Ends found trial) = trial_quiet found (Done ∷ []) trial refl
+
 local_quiet : (m : ModelParts) (l : Local) (o : Option Task)
     → has_halt (chunk_of m l o).gives.entries ≡ false
 local_quiet m l None = refl
@@ -216,7 +230,10 @@ local_quiet m l (Some (Nodes task)) =
     passes_quiet m l.cuts task (record { slot = l.slot; splits = l.splits }) p p.run.outcome
 local_quiet m l (Some (Cuts task)) =
     let new = new_cuts m l.cuts in
-    cuts_quiet new (end_of_cuts (cuts_after task.chunks new)) (cuts_end_quiet (cuts_after task.chunks new))
+    cuts_quiet new (end_of_cuts (cuts_after task.chunks new))
+    (cuts_end_quiet (cuts_after task.chunks new))
+local_quiet m l (Some (Dive task)) =
+    dive_quiet (dive_chunk m l.cuts task).entries (dive_gives m l.cuts task)
 
 take_quiet : (m : ModelParts) (v : View) (l : Local) (pick : Pick)
     → has_halt (entries_of (begin_by m v l pick).does) ≡ false
@@ -256,7 +273,7 @@ open_cases halted [] held name node first over = absurd (none-some node first)
 open_cases true (x ∷ xs) held name node first over = refl
 open_cases false (x ∷ xs) held name node first over =
     absurd (some_in x xs
-    (and_true (nat_eq (length (x ∷ xs)) 0) (nat_eq (length held) 0) over).0)
+    (and_parts (nat_eq (length (x ∷ xs)) 0) (nat_eq (length held) 0) over).0)
 
 held_cases : (halted : Bool) (opened : List OpenNode) (held : List ℕ) (name : ℕ)
     → list_any (λ other. nat_eq other name) held ≡ true
@@ -265,7 +282,7 @@ held_cases halted opened [] name among over = absurd (false≢true among)
 held_cases true opened (x ∷ xs) name among over = refl
 held_cases false opened (x ∷ xs) name among over =
     absurd (some_in x xs
-    (and_true (nat_eq (length opened) 0) (nat_eq (length (x ∷ xs)) 0) over).1)
+    (and_parts (nat_eq (length opened) 0) (nat_eq (length (x ∷ xs)) 0) over).1)
 
 over_stays : (m : ModelParts) (v : View) (e : Entry) → MayJoin m v e → is_over v ≡ true
     → is_over (after_entry m v e) ≡ true
@@ -314,7 +331,7 @@ end_picked m v l Over is does = is
 end_picked m v l (Node node) is does = absurd (take_no_end (Start node ∷ []) does)
 end_picked m v l Nothing is does = absurd (idle_no_end does)
 end_picked m v l CutLoop is does = absurd (take_no_end (CutStart ∷ []) does)
-end_picked m v l (Heuristic node) is does = absurd (idle_no_end does)
+end_picked m v l (Heuristic node) is does = absurd (take_no_end (HeurStart node ∷ []) does)
 
 end_over : (m : ModelParts) (v : View) (l : Local) → (begin_of m v l).does ≡ End
     → is_over v ≡ true

@@ -1,4 +1,4 @@
--- A task takes the best open node, or looks for cuts where none has.
+-- A task takes the best open node, dives from it, or looks for cuts where none has.
 use Rattle.std.proofs.Common.{List}
 use Rattle.work_stamp.specs.Taskers.{AfterBegin}
 use Rattle.work_stamp.specs.declared.entry.Entry.{Entry}
@@ -7,10 +7,10 @@ use Rattle.ip_core.specs.declared.model.ModelParts.{ModelParts}
 use Rattle.node_pool.specs.Lemmas.Orders.{best_is_least}
 use Rattle.node_pool.specs.Views.{view_of}
 use Rattle.node_pool.specs.declared.settings.SearchSettings.{SearchSettings}
-use Rattle.task_steps.specs.Picks.{BestIsTaken, BestNode, CutsFirst, TakesBest}
+use Rattle.task_steps.specs.Picks.{BestDive, BestIsTaken, BestNode, CutsFirst, TakesBest}
 use Rattle.task_steps.specs.Rules.{begin_of}
 use Rattle.task_steps.specs.declared.local.Local.{Local}
-use Rattle.task_steps.specs.Lemmas.Beginning.{IsTaken, OfCuts, OfNode, pick_best, pick_cuts, taken_is}
+use Rattle.task_steps.specs.Lemmas.Beginning.{IsTaken, OfCuts, OfDive, OfNode, pick_best, pick_cuts, pick_dive, taken_is}
 
 taken_best : (m : ModelParts) (settings : SearchSettings) (history : List KeyedEntry) (l : Local)
     (es : List Entry) (after : AfterBegin Local) → IsTaken m (view_of m settings history) l es after
@@ -18,6 +18,9 @@ taken_best : (m : ModelParts) (settings : SearchSettings) (history : List KeyedE
 taken_best m settings history l _ _ (OfNode node is) =
     BestNode node
     (best_is_least m settings history node (pick_best (view_of m settings history) node is))
+taken_best m settings history l _ _ (OfDive node is) =
+    let dived = pick_dive (view_of m settings history) node is in
+    BestDive node (best_is_least m settings history node dived.1) dived.0
 taken_best m settings history l _ _ (OfCuts is) =
     CutsFirst (pick_cuts (view_of m settings history) is)
 

@@ -11,7 +11,7 @@ use Rattle.leaf_truth.proofs.OverMore.{leaf_holds_over_more}
 use Rattle.work_stamp.specs.Histories.{FollowInTurn, keyed_entry, under}
 use Rattle.work_stamp.specs.Taskers.{AfterBegin, Standing, standing, view_of as rules_view}
 use Rattle.work_stamp.specs.declared.entry.Entry.{Entry}
-use Rattle.work_stamp.specs.declared.entry.Entry.TheVariants.{Start, CutStart, Cut, Done, Found, Closed, Halt}
+use Rattle.work_stamp.specs.declared.entry.Entry.TheVariants.{Start, CutStart, HeurStart, Cut, Done, Found, Closed, Halt}
 use Rattle.work_stamp.specs.declared.key.Key.{Key}
 use Rattle.work_stamp.specs.declared.stamped.KeyedEntry.{KeyedEntry}
 use Rattle.stamp_machine.specs.Limits.{AreLimits}
@@ -36,6 +36,7 @@ use Rattle.task_steps.specs.Lawful.{search_law}
 use Rattle.task_steps.specs.Records.{HasRecord, IsTrueRecord, RecordsHold}
 use Rattle.task_steps.specs.Rules.{begin_of, chunk_of, rules}
 use Rattle.task_steps.specs.CutTasks.{cuts_after, end_of_cuts, entries_of_cuts, new_cuts}
+use Rattle.task_steps.specs.DiveTasks.{dive_chunk}
 use Rattle.task_steps.specs.Tasks.{node_chunk}
 use Rattle.task_steps.specs.declared.local.CutTask.{CutTask}
 use Rattle.cut_separate.specs.declared.new_cut.NewCut.{NewCut}
@@ -44,15 +45,16 @@ use Rattle.task_steps.specs.declared.local.Local.{Local}
 use Rattle.task_steps.specs.declared.local.NodeTask.{NodeTask}
 use Rattle.task_steps.specs.declared.local.Task.{Task}
 use Rattle.task_steps.specs.declared.task_chunk.TaskChunk.{TaskChunk}
-use Rattle.task_steps.specs.Lemmas.Beginning.{IsTaken, OfCuts, OfNode, taken_is}
+use Rattle.task_steps.specs.Lemmas.Beginning.{IsTaken, OfCuts, OfDive, OfNode, taken_is}
 use Rattle.task_steps.specs.Lemmas.Fitting.{held_known}
 use Rattle.task_steps.specs.Lemmas.Histories.{view_with, with_settings}
 use Rattle.task_steps.specs.Lemmas.TaskChunks.{worker_of}
 use Rattle.task_steps.specs.Lemmas.TaskCuts.{cut_rows}
-use Rattle.task_steps.proofs.ChunkRecords.{AreOfTask, IsNotAbove, IsOfTask, chunk_records}
+use Rattle.task_steps.proofs.ChunkRecords.{AreOfTask, CloseNone, IsNotAbove, IsOfTask, both_close_none, chunk_records, done_closes_none, found_closes_none, none_close_none}
+use Rattle.task_steps.proofs.DiveEntries.{AreOfDive, Ends, GoesOn, IsTrial, NoPoint, OnePoint, dive_gives}
 use Rattle.task_steps.proofs.LaterViews.{IsLater, later_view, up_to, view_append}
 use Rattle.task_steps.proofs.Truths.{history_is_read, law}
-use Rattle.task_steps.specs.declared.local.Task.TheVariants.{Nodes, Cuts}
+use Rattle.task_steps.specs.declared.local.Task.TheVariants.{Nodes, Cuts, Dive}
 
 -- ---- what the history holds for a task
 
@@ -123,6 +125,9 @@ start_closes_none : (node place name : ℕ) → at (Start node ∷ []) place ≡
 start_closes_none node zero name there = start_is_not_closed node name there
 start_closes_none node (suc place) name there = none_is_no_some (Closed name) there
 
+dive_is_not_closed : (node name : ℕ) → Some (HeurStart node) ≡ Some (Closed name) → ⊥
+dive_is_not_closed node name same = cc
+
 cuts_are_not_closed : (name : ℕ) → Some CutStart ≡ Some (Closed name) → ⊥
 cuts_are_not_closed name same = cc
 
@@ -148,11 +153,26 @@ end_closes_none None zero name there = done_is_not_closed name there
 end_closes_none None (suc place) name there = none_is_no_some (Closed name) there
 end_closes_none (Some task) place name there = none_is_no_some (Closed name) there
 
+-- a chunk of a dive closes none
+
+trial_closes_none : (found : List Entry) → IsTrial found → CloseNone found
+trial_closes_none _ NoPoint = none_close_none
+trial_closes_none _ (OnePoint value x) = found_closes_none value x
+
+dive_closes_none : (es : List Entry) → AreOfDive es → CloseNone es
+dive_closes_none _ (GoesOn found trial) = trial_closes_none found trial
+dive_closes_none _ (Ends found trial) =
+    both_close_none found (Done ∷ []) (trial_closes_none found trial) done_closes_none
+
 taken_closes_none : (m : ModelParts) (v : View) (l : Local) (es : List Entry)
     (after : AfterBegin Local) (place name : ℕ) → IsTaken m v l es after
     → at es place ≡ Some (Closed name) → ⊥
 taken_closes_none m v l _ _ place name (OfNode node is) there =
     start_closes_none node place name there
+taken_closes_none m v l _ _ zero name (OfDive node is) there =
+    dive_is_not_closed node name there
+taken_closes_none m v l _ _ (suc place) name (OfDive node is) there =
+    none_is_no_some (Closed name) there
 taken_closes_none m v l _ _ zero name (OfCuts is) there = cuts_are_not_closed name there
 taken_closes_none m v l _ _ (suc place) name (OfCuts is) there =
     none_is_no_some (Closed name) there
@@ -256,13 +276,17 @@ module _ (m : ModelParts) (settings : SearchSettings) (valid : IsModel m) (paire
         closed = record { place = closed.0; key = key; own = own; there = closed.1 };
       }
 
-  -- a task that looks for cuts has no records
+  -- a task that looks for cuts and a dive have no records
   kind_record : (slot : ℕ) (item : Record) (key : Key) (l : Local) (task : Task) (place : ℕ)
       → key.slot ≡ slot → IsJoined (records slot) key l → l.task ≡ Some task
       → at (chunk_of m l l.task).gives.records place ≡ Some item → IsTrueRecord m entries slot item
   kind_record slot item key l (Nodes task) place own joined works there =
       task_record slot item key l task place own joined works there
   kind_record slot item key l (Cuts task) place own joined works there =
+      absurd (none_is_no_some item
+      (subst (λ (o : Option Task). at (chunk_of m l o).gives.records place ≡ Some item) works
+      there))
+  kind_record slot item key l (Dive task) place own joined works there =
       absurd (none_is_no_some item
       (subst (λ (o : Option Task). at (chunk_of m l o).gives.records place ≡ Some item) works
       there))
@@ -294,7 +318,7 @@ module _ (m : ModelParts) (settings : SearchSettings) (valid : IsModel m) (paire
       (sym works) has.there) in
       record { place = stands.0; item = has.item; there = stands.1; named = has.named }
 
-  -- and closes no node
+  -- and close no node
   closed_by_kind : (key : Key) (name : ℕ) (l : Local) (task : Task) (place : ℕ)
       → IsJoined (records key.slot) key l → l.task ≡ Some task
       → at (chunk_of m l l.task).gives.entries place ≡ Some (Closed name)
@@ -306,6 +330,11 @@ module _ (m : ModelParts) (settings : SearchSettings) (valid : IsModel m) (paire
       let o = cuts_after task.chunks new in
       absurd (cuts_close_none new (end_of_cuts o) place name
       (λ later here. end_closes_none o later name here)
+      (subst (λ (o : Option Task). at (chunk_of m l o).gives.entries place ≡ Some (Closed name))
+      works there))
+  closed_by_kind key name l (Dive task) place joined works there =
+      absurd (dive_closes_none (dive_chunk m l.cuts task).entries (dive_gives m l.cuts task) place
+      name
       (subst (λ (o : Option Task). at (chunk_of m l o).gives.entries place ≡ Some (Closed name))
       works there))
 

@@ -1,5 +1,6 @@
 -- Answers are true.
 use Rattle.std.proofs.Common.{◌≡◌, ◌∙◌, ℕ, Bool, true, false, nat_eq, if◌then◌else◌, List, [], ◌∷◌, ◌++◌, length, map, Option, Some, None, refl, sym, ap, subst, arith}
+use Rattle.std.proofs.lemmas.Bool.{and_parts}
 use Rattle.ip_core.specs.Sides.{IsPaired}
 use Rattle.ip_core.specs.Models.{IsModel}
 use Rattle.ip_core.specs.declared.model.ModelParts.{ModelParts}
@@ -26,7 +27,6 @@ use Rattle.task_steps.specs.declared.answer.Best.{Best}
 use Rattle.task_steps.specs.declared.answer.Status.{Status}
 use Rattle.task_steps.specs.declared.answer.Status.TheVariants.{StoreLimit, WorkLimit}
 use Rattle.task_steps.specs.declared.local.Local.{Local}
-use Rattle.task_steps.specs.Lemmas.Feasible.{and_true}
 use Rattle.task_steps.specs.Lemmas.NameCounts.{eq_from_test}
 use Rattle.task_steps.specs.Lemmas.Histories.{follow_with, view_with}
 
@@ -37,7 +37,7 @@ nothing_in (x ∷ xs) h =
 
 nothing_left : (m : ModelParts) (v : View) → is_finished v ≡ true → boxes_of m v ≡ []
 nothing_left m v h =
-    let parts = and_true (nat_eq (length v.open_nodes) 0) (nat_eq (length v.held_nodes) 0) h in
+    let parts = and_parts (nat_eq (length v.open_nodes) 0) (nat_eq (length v.held_nodes) 0) h in
     ap (λ (nodes : List OpenNode). map (λ (name : ℕ). box_of m.root v.branches name)
     (map (λ (node : OpenNode). node.name) nodes ++ v.held_nodes))
     (nothing_in v.open_nodes parts.0)

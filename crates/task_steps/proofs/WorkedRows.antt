@@ -28,7 +28,7 @@ abbrev task : ℕ → Sides → ℤ → ℕ → NodeTask
 task node s cutoff nodes = record { node = node; bounds = s; cutoff = cutoff; nodes = nodes }
 
 -- the least of x in 0 to 1, with no rows
-abbrev unit : Sides
+abbrev pub unit : Sides
 unit = record { lows = pos 0 ∷ []; highs = pos 1 ∷ [] }
 
 abbrev pub free : ModelParts
@@ -88,7 +88,8 @@ pub first_split : node_chunk odd [] (worker 0) (task 0 units (pos 1) 1) ≡ reco
   records = [];
   work = 217;
   task = Some (Nodes (task 4
-      (record { lows = pos 0 ∷ pos 0 ∷ pos 0 ∷ []; highs = pos 0 ∷ pos 1 ∷ pos 1 ∷ [] }) (pos 1) 2));
+      (record { lows = pos 0 ∷ pos 0 ∷ pos 0 ∷ []; highs = pos 0 ∷ pos 1 ∷ pos 1 ∷ [] })
+      (pos 1) 2));
   splits = 1;
 }
 unfolding Rattle.row_propagate.specs.Passes.after_passes Rattle.dual_ascent.specs.Ascents.ascent

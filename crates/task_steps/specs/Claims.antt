@@ -24,7 +24,7 @@ use Rattle.task_steps.specs.declared.keep.Keep.TheVariants.{Low, High, Neither}
 use Rattle.task_steps.specs.declared.local.Local.{Local}
 use Rattle.task_steps.specs.declared.local.NodeTask.{NodeTask}
 use Rattle.task_steps.specs.declared.local.Task.{Task}
-use Rattle.task_steps.specs.declared.local.Task.TheVariants.{Nodes, Cuts}
+use Rattle.task_steps.specs.declared.local.Task.TheVariants.{Nodes, Cuts, Dive}
 
 -- a node with its box
 pub record Held : Type 0 where
@@ -55,8 +55,8 @@ HasHold m v None = Unit {0}
 HasHold m v (Some node) = HasHeld m v node
 
 -- what a history of this view owes a slot for its claim: its node stays held, the cutoff only
--- falls, its cuts stay in front, and the names of its further splits stay new. Where it adds cuts, it
--- has all that there are, and a task for cuts has begun.
+-- falls, its cuts stay in front, and the names of its further splits stay new. Where it adds cuts,
+-- it has all that there are, and a task for cuts has begun.
 pub record IsOwed (m : ModelParts) (v : View) (slot : ℕ) (c : Claim) : Type 0 where
   pub held : HasHold m v c.hold
   pub cutoff : v.cutoff ≤ℤ c.cutoff
@@ -184,11 +184,12 @@ pub record IsAdding (c : Claim) : Type 0 where
   pub free : c.hold ≡ None
   pub adds : c.adds ≡ true
 
--- between tasks nothing is held
+-- between tasks and in a dive nothing is held
 abbrev pub IsAtTask : Claim → Option Task → Type 0
 IsAtTask c None = c.hold ≡ None
 IsAtTask c (Some (Nodes task)) = IsOn c task
 IsAtTask c (Some (Cuts task)) = IsAdding c
+IsAtTask c (Some (Dive task)) = c.hold ≡ None
 
 -- a slot with nothing pending stands at its claim
 pub record IsAt (m : ModelParts) (slot : ℕ) (c : Claim) (l : Local) : Type 0 where

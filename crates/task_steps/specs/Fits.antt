@@ -1,7 +1,7 @@
 -- Which tasks the calls take.
-use Rattle.std.specs.Prelude.{ℕ, ◌≡◌, ◌≤◌, ◌<◌, ◌^◌, true, pos, ◌≤ℤ◌, unsigned_abs, List, length, Option, Some, None}
+use Rattle.std.specs.Prelude.{ℕ, ◌≡◌, ◌≤◌, ◌<◌, ◌^◌, true, ℤ, pos, ◌≤ℤ◌, unsigned_abs, List, length, Option, Some, None}
 use Rattle.ip_core.specs.Numbers.{int_at}
-use Rattle.ip_core.specs.Sides.{Sides, IsPaired}
+use Rattle.ip_core.specs.Sides.{Sides, HasNoEmpty, IsPaired}
 use Rattle.ip_core.specs.Boxes.{IsWithin}
 use Rattle.ip_core.specs.declared.model.ModelParts.{ModelParts}
 use Rattle.ip_core.specs.declared.row.Row.{Row}
@@ -15,7 +15,8 @@ use Rattle.task_steps.specs.declared.local.NodeTask.{NodeTask}
 use Rattle.task_steps.specs.declared.local.Task.{Task}
 use Rattle.task_steps.specs.declared.task_chunk.Worker.{Worker}
 use Rattle.task_steps.specs.declared.local.CutTask.{CutTask}
-use Rattle.task_steps.specs.declared.local.Task.TheVariants.{Nodes, Cuts}
+use Rattle.task_steps.specs.declared.local.DiveTask.{DiveTask}
+use Rattle.task_steps.specs.declared.local.Task.TheVariants.{Nodes, Cuts, Dive}
 
 -- both ends of each column lie within the limit of bounds
 pub record IsSmall (s : Sides) : Type 0 where
@@ -45,11 +46,28 @@ pub record AreFewDerived (m : ModelParts) (cuts : List Row) : Type 0 where
 pub record IsCutTask (task : CutTask) : Type 0 where
   pub few : task.chunks ≤ 8
 
+-- a dive goes on in a box without empty columns, towards a point with one value for each column
+pub record IsTowards (m : ModelParts) (s : Sides) (x : List ℤ) : Type 0 where
+  pub solid : HasNoEmpty s
+  pub one_each : length x ≡ length m.cols
+
+-- before its first chunk a dive has no point
+abbrev pub FitsPoint : ModelParts → Sides → Option (List ℤ) → Type 0
+FitsPoint m s None = Unit {0}
+FitsPoint m s (Some x) = IsTowards m s x
+
+-- a dive whose box lies in the root box
+pub record IsDive (m : ModelParts) (task : DiveTask) : Type 0 where
+  pub within : IsWithin m.root task.bounds
+  pub paired : IsPaired task.bounds
+  pub point : FitsPoint m task.bounds task.point
+
 -- a task that fits, with nothing to say where there is none
 abbrev pub FitsTask : ModelParts → Option Task → Type 0
 FitsTask m None = Unit {0}
 FitsTask m (Some (Nodes task)) = IsTask m task
 FitsTask m (Some (Cuts task)) = IsCutTask task
+FitsTask m (Some (Dive task)) = IsDive m task
 
 -- a local whose cuts and task fit
 pub record FitsLocal (m : ModelParts) (l : Local) : Type 0 where

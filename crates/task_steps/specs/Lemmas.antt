@@ -1,7 +1,6 @@
 -- What the law of the search stands on. These lemmas stand here and not in proofs/, since the law
 -- is a part of what the calls promise, and such a part cites definitions and lemmas of specs/
 -- alone.
-pub mod Feasible
 pub mod LawfulPasses
 pub mod TaskCuts
 pub mod Reasons
@@ -15,6 +14,7 @@ pub mod Counts
 pub mod ChunkWork
 pub mod CutWords
 pub mod CutChunks
+pub mod DiveChunks
 pub mod Calls
 pub mod Beginning
 pub mod NameCounts

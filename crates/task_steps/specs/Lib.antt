@@ -1,9 +1,9 @@
 pub mod Columns
-pub mod Points
 pub mod Keeps
 pub mod Fits
 pub mod Tasks
 pub mod CutTasks
+pub mod DiveTasks
 pub mod Rules
 pub mod Sound
 pub mod Answers

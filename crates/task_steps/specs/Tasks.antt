@@ -20,7 +20,7 @@ use Rattle.work_stamp.specs.declared.entry.Entry.{Entry}
 use Rattle.work_stamp.specs.declared.entry.Entry.TheVariants.{Found, Split, Closed, Done}
 use Rattle.task_steps.specs.Columns.{widest, middle}
 use Rattle.task_steps.specs.Keeps.{number_of}
-use Rattle.task_steps.specs.Points.{is_feasible_at}
+use Rattle.round_dive.specs.Feasible.{is_feasible_at}
 use Rattle.task_steps.specs.declared.keep.Keep.{Keep}
 use Rattle.task_steps.specs.declared.keep.Keep.TheVariants.{Low, High, Neither}
 use Rattle.task_steps.specs.declared.local.NodeTask.{NodeTask}
@@ -134,7 +134,8 @@ abbrev pub progress_of : Propagation → ℕ → Progress
 progress_of p work = record { bounds = p.sides; steps = p.steps; work = 1 + p.run.work + work }
 
 -- after the passes: a box that they closed has no ascent
-abbrev pub after_passes : ModelParts → List Row → NodeTask → Worker → Propagation → Ended → TaskChunk
+abbrev pub after_passes : ModelParts → List Row → NodeTask → Worker → Propagation → Ended
+    → TaskChunk
 after_passes m cuts task worker p ended.Open =
     on_point m task worker (progress_of p (ascent_of m cuts p.sides).work)
     (ascent_of m cuts p.sides)

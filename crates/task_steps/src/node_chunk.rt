@@ -1,7 +1,7 @@
 ghost use Rattle.std.specs.Prelude.{◌≡◌, ◌≤◌, ◌<◌, ◌^◌, ◌+◌, ◌≤ℤ◌, pos, neg_ℤ, length, IfOk, IsTrue};
 ghost use Rattle.ip_core.specs.Truth.{IsFeasible};
 ghost use Rattle.task_steps.specs.Fits.{AreFewDerived, IsSmall, IsTask, IsWorker};
-ghost use Rattle.task_steps.specs.Points.{is_feasible_at};
+ghost use Rattle.round_dive.specs.Feasible.{is_feasible_at};
 ghost use Rattle.task_steps.specs.Tasks.{is_found as is_found_of, node_chunk as node_chunk_of, on_point as on_point_of};
 
 use crate::close_or_split::{after_point, closing_chunk};
@@ -13,10 +13,10 @@ use row_propagate::{Outcome as Ended, propagate};
 use std::alloc::Global;
 use work_stamp::{Entry, Pulse};
 
-/// One chunk of a task, on its node: passes over the rows and the cuts, then an ascent over the box that they
-/// leave. The node is closed where the passes close its box, or the bound is at least the task's
-/// cutoff; the reason is kept. Else it is split. The chunk counts 1, the passes and the ascent, and
-/// the pulse hears of no more.
+/// One chunk of a task, on its node: passes over the rows and the cuts, then an ascent over the box
+/// that they leave. The node is closed where the passes close its box, or the bound is at least the
+/// task's cutoff; the reason is kept. Else it is split. The chunk counts 1, the passes and the
+/// ascent, and the pulse hears of no more.
 #[tactic(auto, using(crate::specs::Lemmas::Boxes::copied_within, crate::specs::Lemmas::ChunkWork::ascent_allowed))]
 pub fn node_chunk<P: Pulse>(
     alloc: Global,
@@ -30,8 +30,10 @@ pub fn node_chunk<P: Pulse>(
     requires task { IsTask model.now task.now }
     requires worker { IsWorker worker }
     requires ready { P.IsReady pulse.old }
-    requires allowed { (node_chunk_of model.now cuts.now worker task.now).work ≤ P.allowance pulse.old }
-    ensures value { IfOk result (λ chunk. chunk ≡ node_chunk_of model.now cuts.now worker task.now) }
+    requires allowed { (node_chunk_of model.now cuts.now worker task.now).work
+        ≤ P.allowance pulse.old }
+    ensures value { IfOk result (λ chunk.
+        chunk ≡ node_chunk_of model.now cuts.now worker task.now) }
     ensures ready { P.IsReady pulse.new }
     ensures rest { P.rest pulse.new ≡ P.rest pulse.old }
     ensures spent { P.allowance pulse.old

@@ -14,12 +14,11 @@ pub struct Search {
 }
 
 impl Search {
-    ghost use Rattle.std.specs.Prelude.{◌≡◌, false};
+    ghost use Rattle.std.specs.Prelude.{◌≡◌};
 
-    /// The search of a model by splits, with cuts where the settings have them. It can't dive yet. It
-    /// takes no memory.
+    /// The search of a model by splits, with cuts and dives where the settings have them. It takes
+    /// no memory.
     pub fn new(model: Model, settings: SearchSettings) -> Search
-        requires { settings.heuristics ≡ false }
         ensures model { result.model ≡ model }
         ensures settings { result.settings ≡ settings }
     {

@@ -1,12 +1,14 @@
 ghost use Rattle.std.specs.Prelude.{◌≡◌, ◌≤◌, ◌<◌, ◌+◌, [], ◌∷◌, is_none, IfOk, OnOk};
 ghost use Rattle.work_stamp.specs.declared.task.Begin.TheVariants.{Take};
 ghost use Rattle.task_steps.specs.CutTasks.{cut_task as cut_task_of};
+ghost use Rattle.task_steps.specs.DiveTasks.{dive_task as dive_task_of};
 ghost use Rattle.task_steps.specs.Fits.{FitsLocal};
-ghost use Rattle.task_steps.specs.Rules.{begin_of, chunk_of, fresh_local as fresh_local_of, local_with, task_on as task_on_of};
+ghost use Rattle.task_steps.specs.Rules.{begin_of, chunk_of, dive_on as dive_on_of, fresh_local as fresh_local_of, local_with, task_on as task_on_of};
 
 use crate::copies::{append_rows, copy_rows};
 use crate::cut_chunk::cut_chunk;
-use crate::local::{CutTask, Local, NodeTask, Task};
+use crate::dive_chunk::dive_chunk;
+use crate::local::{CutTask, DiveTask, Local, NodeTask, Task};
 use crate::node_chunk::node_chunk;
 use crate::task_chunk::Worker;
 use ip_core::{List, Model, OutOfMemory};
@@ -33,9 +35,10 @@ pub fn is_at_start(local: &Local) -> bool
     local.task.is_none()
 }
 
-/// What a slot between tasks does: it looks for cuts where they are on and no task has, takes the
-/// best open node, waits where nothing is open, and is over where a Halt stands, or nothing is open
-/// or held. A task has the view's cuts, and one on nodes the view's cutoff.
+/// What a slot between tasks does: it looks for cuts where they are on and no task has, dives from
+/// the best open node or takes it, waits where nothing is open, and is over where a Halt stands, or
+/// nothing is open or held. A task has the view's cuts, and one on nodes or a dive the view's
+/// cutoff.
 pub fn begin(
     alloc: Global,
     model: &Model,
@@ -47,10 +50,14 @@ pub fn begin(
 {
     match pool.pick() {
         Pick::Over => Ok(Begin::End),
-        Pick::Nothing | Pick::Heuristic(_) => Ok(Begin::Idle),
+        Pick::Nothing => Ok(Begin::Idle),
         Pick::CutLoop => {
             let task = Task::Cuts(CutTask { chunks: 1 });
             take(alloc, pool, local, Entry::CutStart, task)
+        }
+        Pick::Heuristic(node) => {
+            let task = Task::Dive(dive_on(alloc, model, pool, node)?);
+            take(alloc, pool, local, Entry::HeurStart { node }, task)
         }
         Pick::Node(node) => {
             let task = Task::Nodes(task_on(alloc, model, pool, node)?);
@@ -89,6 +96,17 @@ fn task_on(alloc: Global, model: &Model, pool: &Pool, node: u64) -> Result<NodeT
     })
 }
 
+/// A dive from a node of the view, with its box and the view's cutoff.
+fn dive_on(alloc: Global, model: &Model, pool: &Pool, node: u64) -> Result<DiveTask, OutOfMemory>
+    ensures { IfOk result (λ task. task ≡ dive_on_of model.now pool.now node) }
+{
+    Ok(DiveTask {
+        bounds: pool.bounds_of(alloc, model, node)?,
+        cutoff: pool.cutoff(),
+        point: None,
+    })
+}
+
 /// A chunk of the slot's task. Without a task nothing happens.
 pub fn chunk<P: Pulse>(
     alloc: Global,
@@ -110,11 +128,7 @@ pub fn chunk<P: Pulse>(
         ≤ P.allowance pulse.new + (chunk_of model.now local.old local.old.task).gives.work }
 {
     let Some(task) = &local.task else {
-        return Ok(Chunk {
-            entries: List::new(alloc),
-            records: List::new(alloc),
-            work: 0,
-        });
+        return Ok(chunk_without_records(alloc, List::new(alloc), 0));
     };
     match task {
         Task::Nodes(task) => {
@@ -135,11 +149,12 @@ pub fn chunk<P: Pulse>(
             let chunk = cut_chunk(alloc, model, local.cuts.as_slice(), task.chunks, pulse)?;
             append_rows(&mut local.cuts, chunk.cuts)?;
             local.task = cut_task(chunk.task);
-            Ok(Chunk {
-                entries: chunk.entries,
-                records: List::new(alloc),
-                work: chunk.work,
-            })
+            Ok(chunk_without_records(alloc, chunk.entries, chunk.work))
+        }
+        Task::Dive(task) => {
+            let chunk = dive_chunk(alloc, model, local.cuts.as_slice(), task, pulse)?;
+            local.task = dive_task(chunk.task);
+            Ok(chunk_without_records(alloc, chunk.entries, chunk.work))
         }
     }
 }
@@ -149,4 +164,22 @@ fn cut_task(task: Option<CutTask>) -> Option<Task>
     ensures { result ≡ cut_task_of task }
 {
     Some(Task::Cuts(task?))
+}
+
+/// The task of a slot whose dive goes on.
+fn dive_task(task: Option<DiveTask>) -> Option<Task>
+    ensures { result ≡ dive_task_of task }
+{
+    Some(Task::Dive(task?))
+}
+
+/// A chunk that closes no node.
+fn chunk_without_records(alloc: Global, entries: List<Entry>, work: u64) -> Chunk
+    ensures { result ≡ record { entries = entries; records = []; work = work } }
+{
+    Chunk {
+        entries,
+        records: List::new(alloc),
+        work,
+    }
 }

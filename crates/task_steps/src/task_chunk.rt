@@ -29,8 +29,8 @@ pub struct SplitChoice {
     pub bound: i64,
 }
 
-/// What a chunk on a node gives: its entries, its records and the work that it counts; how the task goes on;
-/// and the slot's count of splits.
+/// What a chunk on a node gives: its entries, its records and the work that it counts; how the task
+/// goes on; and the slot's count of splits.
 #[derive(Debug, Drop)]
 pub struct TaskChunk {
     pub entries: List<Entry>,

@@ -14,13 +14,33 @@ use std::alloc::Global;
 use std::test::Fail;
 use work_stamp::Entry;
 
-/// The search of a model in plain numbers, with cuts or without.
-fn search_of(alloc: Global, dense: &DenseModel, cuts: bool) -> Result<Search, Fail> {
+/// By splits alone.
+const SPLITS: SearchSettings = SearchSettings {
+    cuts: false,
+    heuristics: false,
+};
+
+/// With cuts.
+const CUTS: SearchSettings = SearchSettings {
+    cuts: true,
+    heuristics: false,
+};
+
+/// With dives.
+const DIVES: SearchSettings = SearchSettings {
+    cuts: false,
+    heuristics: true,
+};
+
+/// With cuts and dives.
+const CUTS_AND_DIVES: SearchSettings = SearchSettings {
+    cuts: true,
+    heuristics: true,
+};
+
+/// The search of a model in plain numbers.
+fn search_of(alloc: Global, dense: &DenseModel, settings: SearchSettings) -> Result<Search, Fail> {
     let model = dense.build(alloc)?.ok_or("a model")?;
-    let settings = SearchSettings {
-        cuts,
-        heuristics: false,
-    };
     Ok(Search::new(model, settings))
 }
 
@@ -71,6 +91,57 @@ const ODD: DenseModel<'static> = DenseModel {
         },
         DenseRow {
             coefs: &[-2, -2, -2],
+            least: -3,
+        },
+    ],
+};
+
+/// 2 times the sum of seven columns in 0 to 1 is 7, without costs.
+const ODD_SEVEN: DenseModel<'static> = DenseModel {
+    costs: &[0; 7],
+    lows: &[0; 7],
+    highs: &[1; 7],
+    rows: &[
+        DenseRow {
+            coefs: &[2; 7],
+            least: 7,
+        },
+        DenseRow {
+            coefs: &[-2; 7],
+            least: -7,
+        },
+    ],
+};
+
+/// The least y with x in 0 to 1, y in 0 to 2, 2x - 3y at least -5 and x + 3y at least 4.
+const ROUNDED: DenseModel<'static> = DenseModel {
+    costs: &[0, 1],
+    lows: &[0, 0],
+    highs: &[1, 2],
+    rows: &[
+        DenseRow {
+            coefs: &[2, -3],
+            least: -5,
+        },
+        DenseRow {
+            coefs: &[1, 3],
+            least: 4,
+        },
+    ],
+};
+
+/// The least -3x + y in 0 to 3 with -3x + 4y at least 2 and x + y at most 3.
+const STEPPED: DenseModel<'static> = DenseModel {
+    costs: &[-3, 1],
+    lows: &[0, 0],
+    highs: &[3, 3],
+    rows: &[
+        DenseRow {
+            coefs: &[-3, 4],
+            least: 2,
+        },
+        DenseRow {
+            coefs: &[-1, -1],
             least: -3,
         },
     ],
@@ -147,8 +218,13 @@ const CUT_START: u64 = 7;
 
 const CUT: u64 = 8;
 
+const DIVE: u64 = 9;
+
+/// The value -1 as a word.
+const MINUS_ONE: u64 = 18_446_744_073_709_551_615;
+
 /// The number of an entry's kind, and its node with a split's first child, its value, or a cut's
-/// divisor with the weight of its one part. Another kind has the number 0.
+/// divisor with the weight of its one part.
 fn kind_row(entry: &Entry) -> [u64; 3] {
     match entry {
         Entry::Start { node } => [START, *node, 0],
@@ -158,8 +234,8 @@ fn kind_row(entry: &Entry) -> [u64; 3] {
         Entry::Done => [DONE, 0, 0],
         Entry::Halt => [HALT, 0, 0],
         Entry::CutStart => [CUT_START, 0, 0],
+        Entry::HeurStart { node } => [DIVE, *node, 0],
         Entry::Cut { derivation } => cut_row(derivation),
-        _ => [0, 0, 0],
     }
 }
 
@@ -211,7 +287,7 @@ fn is_answer(answer: &Answer, status: Status, wanted: Option<(i64, &[i64])>) -> 
 #[derive(Clone, Copy)]
 struct Run {
     dense: DenseModel<'static>,
-    cuts: bool,
+    settings: SearchSettings,
     slots: u32,
     work: u64,
     store: u32,
@@ -221,12 +297,12 @@ struct Run {
     best: Option<(i64, &'static [i64])>,
 }
 
-const RUNS: [Run; 8] = [
+const RUNS: [Run; 11] = [
     // The chunk counts 1, a pass of 1 and twelve rounds of 1. Slot 1 finds nothing open at stamp
     // 0, waits until 1,000, and is over then.
     Run {
         dense: UNIT,
-        cuts: false,
+        settings: SPLITS,
         slots: 2,
         work: 200_000_000,
         store: 2_097_152,
@@ -240,11 +316,11 @@ const RUNS: [Run; 8] = [
         status: Status::Optimal,
         best: Some((0, &[0])),
     },
-    // The first chunk counts 1 + 13 * 4 + 16, and finds two cuts. The second counts 1 + 13 * 10 + 48,
-    // and finds none. On the root's node one pass raises the low, after which nothing changes.
+    // The first chunk counts 1 + 13 * 4 + 16, and finds two cuts. The second counts 1 + 13 * 10 +
+    // 48, and finds none. On the root's node one pass raises the low, after which nothing changes.
     Run {
         dense: DOUBLED,
-        cuts: true,
+        settings: CUTS,
         slots: 1,
         work: 200_000_000,
         store: 2_097_152,
@@ -265,7 +341,7 @@ const RUNS: [Run; 8] = [
     // The root is split after 1 + 7 + 11 * 19, and each child is closed by its passes.
     Run {
         dense: ODD,
-        cuts: false,
+        settings: SPLITS,
         slots: 1,
         work: 200_000_000,
         store: 2_097_152,
@@ -282,9 +358,79 @@ const RUNS: [Run; 8] = [
         status: Status::Infeasible,
         best: None,
     },
+    // The same with a dive from the second child, before it is taken: two passes of 7 close its
+    // box.
+    Run {
+        dense: ODD,
+        settings: DIVES,
+        slots: 1,
+        work: 200_000_000,
+        store: 2_097_152,
+        rows: &[
+            [0, 0, START, 0, 0],
+            [217, 0, SPLIT, 0, 4],
+            [225, 0, CLOSED, 4, 0],
+            [225, 0, DONE, 0, 0],
+            [225, 0, DIVE, 5, 0],
+            [240, 0, DONE, 0, 0],
+            [240, 0, START, 5, 0],
+            [255, 0, CLOSED, 5, 0],
+            [255, 0, DONE, 0, 0],
+        ],
+        ends: &[255],
+        status: Status::Infeasible,
+        best: None,
+    },
+    // The first chunk of the dive finds the ascent's point. The second fixes a column at its value,
+    // and comes to the same point, which isn't below the cutoff.
+    Run {
+        dense: ROUNDED,
+        settings: DIVES,
+        slots: 1,
+        work: 200_000_000,
+        store: 2_097_152,
+        rows: &[
+            [0, 0, START, 0, 0],
+            [167, 0, SPLIT, 0, 4],
+            [173, 0, CLOSED, 4, 0],
+            [173, 0, DONE, 0, 0],
+            [173, 0, DIVE, 5, 0],
+            [340, 0, FOUND, 1, 0],
+            [346, 0, DONE, 0, 0],
+            [346, 0, START, 5, 0],
+            [513, 0, CLOSED, 5, 0],
+            [513, 0, DONE, 0, 0],
+        ],
+        ends: &[513],
+        status: Status::Optimal,
+        best: Some((1, &[1, 1])),
+    },
+    // The ascent's point of the dive fails a row, and its second chunk finds a point.
+    Run {
+        dense: STEPPED,
+        settings: DIVES,
+        slots: 1,
+        work: 200_000_000,
+        store: 2_097_152,
+        rows: &[
+            [0, 0, START, 0, 0],
+            [193, 0, SPLIT, 0, 4],
+            [199, 0, CLOSED, 5, 0],
+            [199, 0, DONE, 0, 0],
+            [199, 0, DIVE, 4, 0],
+            [403, 0, FOUND, MINUS_ONE, 0],
+            [403, 0, DONE, 0, 0],
+            [403, 0, START, 4, 0],
+            [596, 0, CLOSED, 4, 0],
+            [596, 0, DONE, 0, 0],
+        ],
+        ends: &[596],
+        status: Status::Optimal,
+        best: Some((-1, &[1, 2])),
+    },
     Run {
         dense: UNIT,
-        cuts: false,
+        settings: SPLITS,
         slots: 1,
         work: 0,
         store: 2_097_152,
@@ -295,7 +441,7 @@ const RUNS: [Run; 8] = [
     },
     Run {
         dense: UNIT,
-        cuts: false,
+        settings: SPLITS,
         slots: 1,
         work: 14,
         store: 2_097_152,
@@ -306,7 +452,7 @@ const RUNS: [Run; 8] = [
     },
     Run {
         dense: UNIT,
-        cuts: false,
+        settings: SPLITS,
         slots: 1,
         work: 15,
         store: 2_097_152,
@@ -324,7 +470,7 @@ const RUNS: [Run; 8] = [
     // may publish.
     Run {
         dense: UNITS_46,
-        cuts: false,
+        settings: SPLITS,
         slots: 1,
         work: 200_000_000,
         store: 64,
@@ -336,7 +482,7 @@ const RUNS: [Run; 8] = [
     // With one column less they are 60 words in all.
     Run {
         dense: UNITS_45,
-        cuts: false,
+        settings: SPLITS,
         slots: 1,
         work: 200_000_000,
         store: 64,
@@ -376,7 +522,7 @@ fn limits_of(slots: u32, work: u64, store: u32) -> Option<Limits>
 
 /// Whether a run comes out as it is to.
 fn is_as_wanted(alloc: Global, run: &Run) -> Result<bool, Fail> {
-    let search = search_of(alloc, &run.dense, run.cuts)?;
+    let search = search_of(alloc, &run.dense, run.settings)?;
     let limits = limits_of(run.slots, run.work, run.store).ok_or("limits")?;
     let (history, answer) = answer(alloc, &search, &limits)?;
     let same = has_rows(alloc, &history, run.rows, run.ends)?;
@@ -399,9 +545,43 @@ fn histories_follow_the_rules(rt: HostRuntime) -> Result<(), Fail> {
     Ok(())
 }
 
+/// How many nodes were taken before each dive of a history.
+fn starts_before_dives(alloc: Global, history: &History) -> Result<List<u64>, OutOfMemory> {
+    let mut counts = List::new(alloc);
+    let mut starts = 0u64;
+    for item in history.entries.as_slice() {
+        match &item.entry {
+            Entry::Start { .. } => starts = starts.saturating_add(1),
+            Entry::HeurStart { .. } => counts.push(starts)?,
+            _ => {}
+        }
+    }
+    Ok(counts)
+}
+
+/// Whether one slot dives from a node after the first, the ninth and the seventeenth start, and
+/// after no other.
+fn dives_when_due(alloc: Global) -> Result<bool, Fail> {
+    let search = search_of(alloc, &ODD_SEVEN, DIVES)?;
+    let limits = Limits {
+        slots: 1,
+        work: 200_000_000,
+        store: 1_048_576,
+    };
+    let (history, answer) = answer(alloc, &search, &limits)?;
+    let counts = starts_before_dives(alloc, &history)?;
+    Ok(counts.as_slice() == [1, 9, 17] && is_answer(&answer, Status::Infeasible, None))
+}
+
+#[test]
+fn dives_come_in_turn(rt: HostRuntime) -> Result<(), Fail> {
+    assert!(rt; dives_when_due(rt.alloc())?);
+    Ok(())
+}
+
 /// Whether four slots find this best point of a model, with this value.
 fn is_best(alloc: Global, dense: &DenseModel, value: i64, point: &[i64]) -> Result<bool, Fail> {
-    let search = search_of(alloc, dense, true)?;
+    let search = search_of(alloc, dense, CUTS_AND_DIVES)?;
     let limits = Limits {
         slots: 4,
         work: 200_000_000,
@@ -473,7 +653,12 @@ fn lesser(least: Option<i64>, value: i64) -> Option<i64> {
 }
 
 /// Whether the search of a model within limits has the least value of all points.
-fn is_least(alloc: Global, case: &[i64; 11], limits: &Limits, cuts: bool) -> Result<bool, Fail>
+fn is_least(
+    alloc: Global,
+    case: &[i64; 11],
+    limits: &Limits,
+    settings: SearchSettings,
+) -> Result<bool, Fail>
     requires { AreLimits limits.now }
 {
     let dense = DenseModel {
@@ -491,7 +676,7 @@ fn is_least(alloc: Global, case: &[i64; 11], limits: &Limits, cuts: bool) -> Res
             },
         ],
     };
-    let search = search_of(alloc, &dense, cuts)?;
+    let search = search_of(alloc, &dense, settings)?;
     let (_history, answer) = answer(alloc, &search, limits)?;
     let value = match &answer.best {
         Some(best) => Some(best.value),
@@ -501,7 +686,8 @@ fn is_least(alloc: Global, case: &[i64; 11], limits: &Limits, cuts: bool) -> Res
     Ok(ended && value == least(case))
 }
 
-/// Whether so many slots have the least value, without cuts and with them.
+/// Whether so many slots have the least value, by splits alone, with cuts and dives, and with
+/// dives.
 fn is_least_on(alloc: Global, case: &[i64; 11], slots: u32) -> Result<bool, Fail>
     requires { AreLimits (record { slots = slots; work = 1000000; store = 10000 }) }
 {
@@ -510,7 +696,11 @@ fn is_least_on(alloc: Global, case: &[i64; 11], slots: u32) -> Result<bool, Fail
         work: 1_000_000,
         store: 10_000,
     };
-    Ok(is_least(alloc, case, &limits, false)? && is_least(alloc, case, &limits, true)?)
+    Ok(
+        is_least(alloc, case, &limits, SPLITS)?
+            && is_least(alloc, case, &limits, CUTS_AND_DIVES)?
+            && is_least(alloc, case, &limits, DIVES)?,
+    )
 }
 
 /// The first model whose search differs from the enumeration of all its points, by 1, 2, 5 or 64

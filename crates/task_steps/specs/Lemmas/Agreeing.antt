@@ -22,27 +22,28 @@ use Rattle.node_pool.specs.Follows.{MayFollow, MayJoin}
 use Rattle.node_pool.specs.Lemmas.Cuts.{same_cuts}
 use Rattle.node_pool.specs.Lemmas.Joining.{entries_are_counted}
 use Rattle.node_pool.specs.Picks.{pick_of}
-use Rattle.node_pool.specs.declared.pick.Pick.TheVariants.{Node}
+use Rattle.node_pool.specs.declared.pick.Pick.TheVariants.{Heuristic, Node}
 use Rattle.node_pool.specs.Views.{View, after_entry, fresh_view, is_known, view_of}
 use Rattle.node_pool.specs.declared.settings.SearchSettings.{SearchSettings}
 use Rattle.task_steps.specs.Agrees.{Agrees, MayFollowIn, Stands}
 use Rattle.task_steps.specs.Answers.{best_after, best_found}
 use Rattle.task_steps.specs.Claims.{Claim, IsAt, IsAtTask, IsDue, IsReady, Meets, claim_after, claims_with}
 use Rattle.task_steps.specs.Fits.{FitsLocal, FitsTask}
-use Rattle.task_steps.specs.Rules.{begin_of, chunk_of, first_cuts, local_on, local_with, rules}
+use Rattle.task_steps.specs.Rules.{begin_of, chunk_of, first_cuts, local_diving, local_on, local_with, rules}
 use Rattle.task_steps.specs.Tasks.{child_name, next_ordinal}
 use Rattle.task_steps.specs.declared.answer.Best.{Best}
 use Rattle.task_steps.specs.declared.local.Local.{Local}
 use Rattle.task_steps.specs.declared.local.Task.{Task}
-use Rattle.task_steps.specs.Lemmas.Beginning.{IsTaken, OfCuts, OfNode, no_cut_starts, pick_boxed, pick_open, taken_is, task_fits}
+use Rattle.task_steps.specs.Lemmas.Beginning.{IsTaken, OfCuts, OfDive, OfNode, best_boxed, best_is_open, dive_fits, no_cut_starts, pick_best, pick_dive, taken_is, task_fits}
 use Rattle.task_steps.specs.Lemmas.Fitting.{fresh_view_fits}
 use Rattle.task_steps.specs.Lemmas.Histories.{best_next, seen_next}
-use Rattle.task_steps.specs.Lemmas.Joining.{claim_for_cuts, claim_on, held_is, joined_closed, joined_cut, joined_cut_start, joined_done, joined_found, joined_halt, joined_split, joined_start}
+use Rattle.task_steps.specs.Lemmas.Joining.{claim_for_cuts, claim_for_dive, claim_on, held_is, joined_closed, joined_cut, joined_cut_start, joined_dive, joined_done, joined_found, joined_halt, joined_split, joined_start}
 use Rattle.task_steps.specs.Lemmas.NameCounts.{one_at_most}
 use Rattle.task_steps.specs.Lemmas.Standings.{fresh_stand, place_within, stands_set, stands_with, stands_without}
 use Rattle.task_steps.specs.Lemmas.Working.{chunk_good}
-use Rattle.task_steps.specs.declared.local.Task.TheVariants.{Nodes, Cuts}
+use Rattle.task_steps.specs.declared.local.Task.TheVariants.{Nodes, Cuts, Dive}
 use Rattle.task_steps.specs.Lemmas.CutChunks.{cut_chunk_good}
+use Rattle.task_steps.specs.Lemmas.DiveChunks.{dive_chunk_good}
 
 -- an entry that is due may follow
 due_follows : (m : ModelParts) (v : View) (best : Option Best) (slot : ℕ) (claims : ℕ → Claim)
@@ -115,7 +116,13 @@ due_joins m v best slot claims Halt valid short meets due follows = absurd due
 -- the claim of a slot that holds nothing
 abbrev fresh_claim : ModelParts → SearchSettings → Claim
 fresh_claim m settings =
-    record { hold = None; cutoff = (fresh_view m settings).cutoff; splits = 0; cuts = []; adds = false }
+    record {
+      hold = None;
+      cutoff = (fresh_view m settings).cutoff;
+      splits = 0;
+      cuts = [];
+      adds = false;
+    }
 
 or_none : (b : Bool) → b ≡ false → (b || false) ≡ false
 or_none b is = rw is refl
@@ -173,11 +180,24 @@ module _ (m : ModelParts) (settings : SearchSettings) where
       }
 
   node_follows : (history : List KeyedEntry) (node : ℕ) → length history < 2 ^ 31
-      → pick_of (view_of m settings history) ≡ Node node → MayFollowIn m settings history (Start node)
-  node_follows history node short is = record {
-    short = omega (arith, few_entries history short);
-    joins = pick_open (view_of m settings history) node is;
-  }
+      → pick_of (view_of m settings history) ≡ Node node
+      → MayFollowIn m settings history (Start node)
+  node_follows history node short is =
+      let v = view_of m settings history in
+      record {
+        short = omega (arith, few_entries history short);
+        joins = best_is_open v node (pick_best v node is);
+      }
+
+  dive_follows : (history : List KeyedEntry) (node : ℕ) → length history < 2 ^ 31
+      → pick_of (view_of m settings history) ≡ Heuristic node
+      → MayFollowIn m settings history (HeurStart node)
+  dive_follows history node short is =
+      let v = view_of m settings history in
+      record {
+        short = omega (arith, few_entries history short);
+        joins = best_is_open v node (pick_dive v node is).1;
+      }
 
   cuts_follow : (history : List KeyedEntry) → length history < 2 ^ 31
       → MayFollowIn m settings history CutStart
@@ -191,6 +211,8 @@ module _ (m : ModelParts) (settings : SearchSettings) where
       → FollowInTurn (MayFollowIn m settings) history (under k es)
   taken_follows history k l _ _ short (OfNode node is) =
       (node_follows history node short is, tt)
+  taken_follows history k l _ _ short (OfDive node is) =
+      (dive_follows history node short is, tt)
   taken_follows history k l _ _ short (OfCuts is) = (cuts_follow history short, tt)
 
   pub take_follows : (history : List KeyedEntry) (k : Key) (l : Local) (es : List Entry)
@@ -214,7 +236,7 @@ module _ (m : ModelParts) (settings : SearchSettings) where
       let d = claim_on m v (claims slot) node in
       let here : IsAt m slot d (local_on m v l node) = record {
         fits = task_fits m v l node agrees.meets.fits at.fits
-            (pick_boxed m v node agrees.meets.fits is);
+            (best_boxed m v node agrees.meets.fits (pick_best v node is));
         own = at.own;
         splits = at.splits;
         cuts = refl;
@@ -232,6 +254,28 @@ module _ (m : ModelParts) (settings : SearchSettings) where
             (joined_start m v (best_found history) slot claims valid agrees.meets node
             (node_follows history node short is));
         ready = stands_with m claims slots slot d (local_on m v l node) [] agrees.ready here
+            (place_within slots slot _ there);
+      }
+  taken_joins history slots slot k l _ _ valid short agrees there (OfDive node is) =
+      let v = view_of m settings history in
+      let claims = agrees.claims in
+      let at : IsAt m slot (claims slot) l =
+      at_place slots slot (claims slot) l [] (agrees.ready slot) there in
+      let d = claim_for_dive v (claims slot) in
+      let here : IsAt m slot d (local_diving m v l node) = record {
+        fits = dive_fits m v l node agrees.meets.fits at.fits
+            (best_boxed m v node agrees.meets.fits (pick_dive v node is).1);
+        own = at.own;
+        splits = at.splits;
+        cuts = refl;
+        task = refl;
+      } in
+      record {
+        claims = claims_with claims slot d;
+        meets = in_view history k (HeurStart node) (claims_with claims slot d)
+            (joined_dive m v (best_found history) slot claims valid agrees.meets node
+            (dive_follows history node short is));
+        ready = stands_with m claims slots slot d (local_diving m v l node) [] agrees.ready here
             (place_within slots slot _ there);
       }
   taken_joins history slots slot k l _ _ valid short agrees there (OfCuts is) =
@@ -273,16 +317,20 @@ module _ (m : ModelParts) (settings : SearchSettings) where
 
   -- a chunk of a task whose slot stands at its claim
   chunk_ready : (slot : ℕ) (c : Claim) (l : Local) (o : Option Task) → IsModel m → IsPaired m.root
-      → FitsLocal m l → FitsTask m o → l.slot ≡ slot → l.splits ≡ c.splits → l.cuts ≡ c.cuts → IsAtTask c o
+      → FitsLocal m l → FitsTask m o → l.slot ≡ slot → l.splits ≡ c.splits → l.cuts ≡ c.cuts
+      → IsAtTask c o
       → is_none o ≡ false
       → IsReady m slot c (chunk_of m l o).gives.entries (chunk_of m l o).local
-  chunk_ready slot c l None valid paired fits task_fits own same seen at has = absurd (true≢false has)
+  chunk_ready slot c l None valid paired fits task_fits own same seen at has =
+      absurd (true≢false has)
   chunk_ready slot c l (Some (Nodes task)) valid paired fits task_fits own same seen at has =
       (chunk_good m l task valid paired fits task_fits).ready slot c own same
       (record { node = at.node; is = at.is; named = at.named; boxed = at.boxed }) seen at.cutoff
   chunk_ready slot c l (Some (Cuts task)) valid paired fits task_fits own same seen at has =
       (cut_chunk_good m l task.chunks valid fits task_fits.few).ready slot c own same seen at.free
       at.adds
+  chunk_ready slot c l (Some (Dive task)) valid paired fits task_fits own same seen at has =
+      (dive_chunk_good m l task valid paired fits task_fits).ready slot c own same seen at
 
   pub chunk_agrees : (history : List KeyedEntry) (slots : List (Option (Standing Local)))
       (slot : ℕ) (l : Local) → IsModel m → IsPaired m.root → Agrees m settings history slots

@@ -15,7 +15,8 @@ pub ascent_low : (m : ModelParts) (cuts : List Row) (s : Sides) → IsModel m �
 ascent_low m cuts s valid near = omega (arith, ints, bound_is_above_limit m cuts s valid near)
 
 -- without columns the least value is 0, so that the bound isn't below 0
-pub ascent_above : (m : ModelParts) (cuts : List Row) (s : Sides) → length m.costs ≡ 0 → pos 0 ≤ℤ ascent_bound m cuts s
+pub ascent_above : (m : ModelParts) (cuts : List Row) (s : Sides) → length m.costs ≡ 0
+    → pos 0 ≤ℤ ascent_bound m cuts s
 ascent_above m cuts s none =
     let least : least_value m s ≡ pos 0 = rw none refl in
     omega (arith, ints, least, bound_is_above_least m cuts s)

@@ -12,12 +12,14 @@ use Rattle.task_steps.specs.Lemmas.ChunkWork.{chunk_counts}
 use Rattle.task_steps.specs.Lemmas.TaskChunks.{worker_of}
 use Rattle.task_steps.specs.Lemmas.Working.{chunk_good}
 use Rattle.task_steps.specs.Lemmas.TaskCuts.{none_derived}
-use Rattle.task_steps.specs.declared.local.Task.TheVariants.{Nodes, Cuts}
+use Rattle.task_steps.specs.declared.local.Task.TheVariants.{Nodes, Cuts, Dive}
 use Rattle.task_steps.specs.Lemmas.CutChunks.{cut_chunk_good}
+use Rattle.task_steps.specs.Lemmas.DiveChunks.{dive_chunk_good}
 
 -- a fresh local fits
 pub fresh_local_fits : (m : ModelParts) (slot : ℕ) → slot < 64 → FitsLocal m (fresh_local slot)
-fresh_local_fits m slot few = record { slot = few; few = omega arith; cuts = none_derived m; task = tt }
+fresh_local_fits m slot few =
+    record { slot = few; few = omega arith; cuts = none_derived m; task = tt }
 
 -- what a chunk of a begun task leaves and gives
 pub record IsLawfulChunk (m : ModelParts) (l : Local) (o : Option Task) : Type 0 where
@@ -35,6 +37,14 @@ chunk_lawful m l (Some (Nodes task)) valid paired fits task_fits start_is =
     record { fits = good.fits; words = good.words; some_work = counts.0; little_work = counts.1 }
 chunk_lawful m l (Some (Cuts task)) valid paired fits task_fits start_is =
     let good = cut_chunk_good m l task.chunks valid fits task_fits.few in
+    record {
+      fits = good.fits;
+      words = good.words;
+      some_work = good.some_work;
+      little_work = good.little_work;
+    }
+chunk_lawful m l (Some (Dive task)) valid paired fits task_fits start_is =
+    let good = dive_chunk_good m l task valid paired fits task_fits in
     record {
       fits = good.fits;
       words = good.words;

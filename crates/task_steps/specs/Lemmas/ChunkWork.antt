@@ -46,7 +46,8 @@ on_point_work m task worker p a true = after_point_work m task worker p a (value
     (Found (value_at m a.point) a.point ∷ [])
 on_point_work m task worker p a false = after_point_work m task worker p a task.cutoff []
 
-open_work : (m : ModelParts) (cuts : List Row) (task : NodeTask) (worker : Worker) (p : Propagation) (o : Ended)
+open_work : (m : ModelParts) (cuts : List Row) (task : NodeTask) (worker : Worker) (p : Propagation)
+    (o : Ended)
     → o ≡ ended.Open → ascent_work m cuts p.sides ≤ (after_passes m cuts task worker p o).work
 open_work m cuts task worker p o is =
     let a = ascent_of m cuts p.sides in
@@ -54,7 +55,8 @@ open_work m cuts task worker p o is =
     rw is (omega (arith, same))
 
 -- where the passes from the task's box leave it open, the chunk counts the ascent
-pub counts_ascent : (m : ModelParts) (cuts : List Row) (worker : Worker) (task : NodeTask) (start s : Sides)
+pub counts_ascent : (m : ModelParts) (cuts : List Row) (worker : Worker) (task : NodeTask)
+    (start s : Sides)
     (run : PassRun) → start ≡ task.bounds → s ≡ (propagation_of m.rows cuts start).sides
     → run ≡ (propagation_of m.rows cuts start).run → run.outcome ≡ ended.Open
     → ascent_work m cuts s ≤ (node_chunk m cuts worker task).work
@@ -69,14 +71,16 @@ counts_ascent m cuts worker task start s run start_is sides run_is goes =
     rw (sides ∙ ap (λ (q : Propagation). q.sides) passed) counted
 
 -- so a pulse that allows the chunk allows the ascent
-pub ascent_allowed : (m : ModelParts) (cuts : List Row) (worker : Worker) (task : NodeTask) (start s : Sides)
+pub ascent_allowed : (m : ModelParts) (cuts : List Row) (worker : Worker) (task : NodeTask)
+    (start s : Sides)
     (run : PassRun) (n : ℕ) → start ≡ task.bounds → s ≡ (propagation_of m.rows cuts start).sides
     → run ≡ (propagation_of m.rows cuts start).run → run.outcome ≡ ended.Open
     → (node_chunk m cuts worker task).work ≤ n → ascent_work m cuts s ≤ n
 ascent_allowed m cuts worker task start s run n start_is sides run_is goes allowed =
     le_trans (counts_ascent m cuts worker task start s run start_is sides run_is goes) allowed
 
-work_cases : (m : ModelParts) (cuts : List Row) (task : NodeTask) (worker : Worker) (p : Propagation) (o : Ended)
+work_cases : (m : ModelParts) (cuts : List Row) (task : NodeTask) (worker : Worker)
+    (p : Propagation) (o : Ended)
     → (1 ≤ (after_passes m cuts task worker p o).work)
     × ((after_passes m cuts task worker p o).work ≤ 1 + p.run.work + ascent_work m cuts p.sides)
 work_cases m cuts task worker p ended.Open =
@@ -87,9 +91,12 @@ work_cases m cuts task worker p (ended.Conflict row) = (omega arith, omega arith
 work_cases m cuts task worker p (ended.Empty col) = (omega arith, omega arith)
 
 -- a chunk counts some work, and not too much
-pub chunk_counts : (m : ModelParts) (cuts : List Row) (worker : Worker) (task : NodeTask) → IsModel m
-    → AreFewDerived m cuts → (1 ≤ (node_chunk m cuts worker task).work) × ((node_chunk m cuts worker task).work ≤ 2 ^ 40)
+pub chunk_counts : (m : ModelParts) (cuts : List Row) (worker : Worker) (task : NodeTask)
+    → IsModel m → AreFewDerived m cuts
+    → (1 ≤ (node_chunk m cuts worker task).work)
+    × ((node_chunk m cuts worker task).work ≤ 2 ^ 40)
 chunk_counts m cuts worker task valid own =
     let p = propagation_of m.rows cuts task.bounds in
     let parts = work_cases m cuts task worker p p.run.outcome in
-    (parts.0, omega (arith, parts.1, passes_work m cuts task.bounds valid own, climb_little m cuts p.sides valid own))
+    let passes = passes_work m cuts task.bounds valid own in
+    (parts.0, omega (arith, parts.1, passes, climb_little m cuts p.sides valid own))

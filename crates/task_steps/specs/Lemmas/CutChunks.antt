@@ -1,5 +1,5 @@
--- What a chunk that looks for cuts gives: cuts that fit, entries that have words, and each of them due
--- in its turn.
+-- What a chunk that looks for cuts gives: cuts that fit, entries that have words, and each of them
+-- due in its turn.
 use Rattle.std.proofs.Common.{◌≡◌, ◌∙◌, ℕ, suc, ◌+◌, ◌*◌, ◌^◌, ◌≤◌, ◌<◌, ◌==◌, Bool, true, false, cond, List, [], ◌∷◌, ◌++◌, append_assoc, length, map, All, Option, Some, None, Result, Ok, refl, sym, ap, subst, arith}
 use Rattle.std.proofs.lemmas.Bool.Decides.{nat_tests}
 use Rattle.std.proofs.lemmas.List.{append-nil, length-append, length-map}

@@ -69,8 +69,8 @@ adds_cut (Closed node) = false
 adds_cut Halt = false
 
 -- The view `w` after one more entry. Known names stay known, and their boxes stay; cuts stay; the
--- cutoff only falls; the nodes that are left, and those that are held, are the old ones but for those that the
--- entry is done with, and those that it makes.
+-- cutoff only falls; the nodes that are left, and those that are held, are the old ones but for
+-- those that the entry is done with, and those that it makes.
 pub record IsNext (m : ModelParts) (v w : View) (e : Entry) : Type 0 where
   pub names : (name : ℕ) → is_known w name ≡ (is_known v name || makes e name)
   pub counted : w.entries ≡ suc v.entries
@@ -119,7 +119,8 @@ last_known bs b name =
     (list_any-append (λ (c : Branch). is_child c name) bs (b ∷ []))
     ∙ three_tests (nat_eq 0 name) (list_any (λ (c : Branch). is_child c name) bs) (is_child b name)
 
-split_names : (m : ModelParts) (v : View) (node col : ℕ) (at : ℤ) (first keep : ℕ) (bound : ℤ) (name : ℕ)
+split_names : (m : ModelParts) (v : View) (node col : ℕ) (at : ℤ) (first keep : ℕ) (bound : ℤ)
+    (name : ℕ)
     → is_known (after_entry m v (Split node col at first keep bound)) name
     ≡ (is_known v name || (nat_eq first name || nat_eq (first + 1) name))
 split_names m v node col at first keep bound name =

@@ -11,7 +11,7 @@ use Rattle.ip_core.specs.declared.derivation.Derivation.{Derivation}
 use Rattle.cut_derive.specs.Derivations.{derived_row}
 use Rattle.search_truth.specs.Boxes.{IsClosed, high_child, low_child}
 use Rattle.work_stamp.specs.declared.entry.Entry.{Entry}
-use Rattle.work_stamp.specs.declared.entry.Entry.TheVariants.{Start, CutStart, Done, Found, Cut, Split, Closed, Halt}
+use Rattle.work_stamp.specs.declared.entry.Entry.TheVariants.{Start, CutStart, HeurStart, Done, Found, Cut, Split, Closed, Halt}
 use Rattle.node_pool.specs.Branchings.{box_of}
 use Rattle.node_pool.specs.Follows.{IsHeld, IsOpen, IsValued, MayFollow}
 use Rattle.node_pool.specs.Laws.{HasCutsOf}
@@ -149,6 +149,10 @@ claim_on m v c node = record c {
   adds = false;
 }
 
+-- the claim of a slot that dives
+abbrev pub claim_for_dive : View → Claim → Claim
+claim_for_dive v c = record c { hold = None; cuts = v.cuts; adds = false }
+
 -- the claim of a slot that looks for cuts
 abbrev pub claim_for_cuts : View → Claim → Claim
 claim_for_cuts v c = record c { hold = None; cuts = v.cuts; adds = true }
@@ -157,7 +161,8 @@ module _ (m : ModelParts) (v : View) (best : Option Best) (slot : ℕ) (claims :
     (valid : IsModel m) (meets : Meets m v best claims) where
   -- the other slots' claims go on where their nodes stay held
   others_next : (w : View) (e : Entry) (j : ℕ) → IsNext m v w e
-      → ((claims j).adds ≡ true → w.cuts ≡ (claims j).cuts) → ((b : Held) → (claims j).hold ≡ Some b → gone e b.name ≡ 0)
+      → ((claims j).adds ≡ true → w.cuts ≡ (claims j).cuts)
+      → ((b : Held) → (claims j).hold ≡ Some b → gone e b.name ≡ 0)
       → ((k : ℕ) → k ≤ 2 ^ 37 → MakesNeither e (child_name j k)) → IsOwed m w j (claims j)
   others_next w e j next alone still neither =
       let owed = meets.owed j in
@@ -371,6 +376,32 @@ module _ (m : ModelParts) (v : View) (best : Option Best) (slot : ℕ) (claims :
       (ap (λ (n : Held). n.name) (same_Some _ a left) ∙ same))
       (λ j other own their. false≢true own)
 
+  -- a slot dives from an open node, which stays open
+  pub joined_dive : (node : ℕ) → MayFollow m v (HeurStart node)
+      → Meets m (after_entry m v (HeurStart node)) best
+      (claims_with claims slot (claim_for_dive v (claims slot)))
+  joined_dive node follows =
+      let e = HeurStart node in
+      let w = after_entry m v e in
+      let next : IsNext m v w e = next_of m v e follows in
+      let d = claim_for_dive v (claims slot) in
+      let owed = meets.owed slot in
+      let few = owed.few in
+      meets_next m v w best best slot claims d meets
+      (view_fits m v e meets.fits follows)
+      (sound_next m v w e best next meets.fits.known refl meets.sound
+      (λ name some. absurd (no_one (gone e name) refl some)))
+      (λ name. once_next m v w e name next refl (meets.once name))
+      (owed_next m v w e slot (claims slot) d next owed tt
+      (le_both w.cutoff v.cutoff (claims slot).cutoff next.falls owed.cutoff) (omega arith)
+      (omega (arith, few)) next.cuts
+      (λ adds. absurd (false≢true adds)) (λ adds. absurd (false≢true adds))
+      (λ k above most. quiet e (λ n. refl) _))
+      (λ j other. others_next w e j next (quietly w e j next refl) (λ b is. refl)
+      (λ k most. quiet e (λ n. refl) _))
+      (λ j a b other left right same. none-some a left)
+      (λ j other own their. false≢true own)
+
   -- a Halt changes no claim
   pub joined_halt : MayFollow m v Halt → Meets m (after_entry m v Halt) best claims
   joined_halt follows =
@@ -425,7 +456,8 @@ module _ (m : ModelParts) (v : View) (best : Option Best) (slot : ℕ) (claims :
       let owed = meets.owed slot in
       let few = owed.few in
       let same : w.cuts ≡ d.cuts =
-      ap (λ (cuts : List Row). with_row cuts (derived_row m cuts derivation)) (owed.alone now.adds) in
+      ap (λ (cuts : List Row). with_row cuts (derived_row m cuts derivation))
+      (owed.alone now.adds) in
       meets_next m v w best best slot claims d meets
       (view_fits m v e meets.fits follows)
       (sound_next m v w e best next meets.fits.known refl meets.sound

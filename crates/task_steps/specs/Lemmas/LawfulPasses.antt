@@ -1,5 +1,6 @@
 -- Passes over rows come to their box by lawful steps.
 use Rattle.std.proofs.Common.{◌≡◌, ◌∙◌, ℕ, zero, suc, ◌+◌, ◌<◌, Bool, true, false, cond, not, ◌==◌, List, [], ◌∷◌, length, get_or, int_lt, Option, Some, None, All, refl, sym, subst, arith}
+use Rattle.std.proofs.lemmas.Bool.{and_parts}
 use Rattle.ip_core.specs.Boxes.{greatest_activity}
 use Rattle.ip_core.specs.Rows.{AreRows, AreTerms, IsTerm}
 use Rattle.ip_core.specs.Sides.{Sides, HasNoEmpty}
@@ -16,7 +17,6 @@ use Rattle.row_propagate.specs.Rounding.{narrower_bound}
 use Rattle.row_propagate.proofs.Going.{cut_naming, model_naming, open_is}
 use Rattle.row_propagate.proofs.Keeping.{either}
 use Rattle.row_propagate.proofs.Stepping.{narrower_box_solid, narrower_box_within, step_replay}
-use Rattle.task_steps.specs.Lemmas.Feasible.{and_true}
 
 -- a run that came from a box by lawful steps; its box has no empty column where it goes on
 pub record IsLawfulRun (rows cuts : List Row) (start : Sides) (run : Run) : Type 0 where
@@ -142,5 +142,5 @@ module _ (rows cuts : List Row) (start : Sides) where
       either (λ c. IsLawfulRun rows cuts start c.run) (is_due run after)
       (after_passes n rows cuts after (passes + 1)) (counted_run after (passes + 1))
       (λ due. passes_lawful root n after (passes + 1) of_rows of_cuts
-      (and_true (is_open after.outcome) (not (length after.steps == length run.steps)) due).0 next)
+      (and_parts (is_open after.outcome) (not (length after.steps == length run.steps)) due).0 next)
       (λ over. next)

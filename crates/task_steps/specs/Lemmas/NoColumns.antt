@@ -1,6 +1,6 @@
 -- A model without columns: where passes leave it open, its empty point meets every row.
 use Rattle.std.proofs.Common.{◌≡◌, ◌∙◌, ℕ, zero, suc, ◌+◌, ◌<◌, Bool, true, false, cond, not, ◌==◌, List, [], ◌∷◌, length, get_or, ℤ, pos, ◌≤ℤ◌, int_lt, Option, Some, None, All, refl, sym, ap, subst, arith}
-use Rattle.std.proofs.lemmas.Bool.{false≢true}
+use Rattle.std.proofs.lemmas.Bool.{and_parts, false≢true}
 use Rattle.std.proofs.lemmas.Int.{ints}
 use Rattle.ip_core.specs.Sides.{Sides}
 use Rattle.ip_core.specs.Boxes.{greatest_activity}
@@ -14,7 +14,6 @@ use Rattle.ip_core.specs.declared.row_ref.RowRef.{RowRef}
 use Rattle.ip_core.specs.declared.row_ref.RowRef.TheVariants.{Model, Cut}
 use Rattle.row_propagate.specs.declared.outcome.Outcome.TheVariants.{Open, Conflict}
 use Rattle.row_propagate.specs.Passes.{CountedRun, Run, after_columns, after_pass, after_passes, after_row, after_rows, counted_run, first_empty, is_due, is_open, open_run, propagation_of, propagation_from, run_of}
-use Rattle.task_steps.specs.Lemmas.Feasible.{and_true}
 
 no_terms : (n : ℕ) (terms : List Term) → n ≡ 0 → All (IsTerm n) terms → terms ≡ []
 no_terms n [] none all = refl
@@ -56,7 +55,7 @@ first_goes : (before after : Run) (last : CountedRun) (passes : ℕ) (b : Bool)
     → is_due before after ≡ b → is_open (cond b last (counted_run after passes)).run.outcome ≡ true
     → is_open after.outcome ≡ true
 first_goes before after last passes true due goes =
-    (and_true (is_open after.outcome) (not (length after.steps == length before.steps)) due).0
+    (and_parts (is_open after.outcome) (not (length after.steps == length before.steps)) due).0
 first_goes before after last passes false due goes = goes
 
 pass_goes : (rows cuts : List Row) (n passes : ℕ) (run : Run)
@@ -79,7 +78,8 @@ calm_from rows cuts s None bare goes =
     (both_go (after_rows Model 0 rows (open_run s [])) (after_rows Cut 0 cuts) _ refl one).0
 
 -- the empty point is feasible
-pub empty_feasible : (m : ModelParts) (cuts : List Row) (s : Sides) (x : List ℤ) → IsModel m → length m.cols ≡ 0
+pub empty_feasible : (m : ModelParts) (cuts : List Row) (s : Sides) (x : List ℤ) → IsModel m
+    → length m.cols ≡ 0
     → length x ≡ 0 → (propagation_of m.rows cuts s).run.outcome ≡ Open → IsFeasible m x
 empty_feasible m cuts s x valid none long goes =
     let bare : (k : ℕ) (d : Row) → k < length m.rows → (get_or m.rows k d).terms ≡ [] =

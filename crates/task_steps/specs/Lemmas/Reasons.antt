@@ -55,8 +55,8 @@ first_below_some (suc n) test j found =
 crossed_test : (high low : ℤ) → int_lt high low ≡ true → high <ℤ low
 crossed_test high low test = grind (arith, ints)
 
--- What the passes over a model's rows and cuts leave of a box: they came to their last box by lawful
--- steps, and there the outcome has its cause.
+-- What the passes over a model's rows and cuts leave of a box: they came to their last box by
+-- lawful steps, and there the outcome has its cause.
 pub record IsPassed (m : ModelParts) (cuts : List Row) (s : Sides) (p : Propagation) : Type 0 where
   pub after : IsAfter m.rows cuts s p.sides p.steps
   pub cause : IsCause m.rows cuts p.sides p.run.outcome
@@ -99,18 +99,21 @@ passes_passed m cuts s valid of_cuts columns =
     passed_cases m cuts s (first_empty s) refl valid of_cuts columns
 
 -- the last box lies in the first one
-pub passed_within : (m : ModelParts) (cuts : List Row) (s : Sides) (p : Propagation) → IsPassed m cuts s p
+pub passed_within : (m : ModelParts) (cuts : List Row) (s : Sides) (p : Propagation)
+    → IsPassed m cuts s p
     → IsWithin s p.sides
 passed_within m cuts s p passed =
     subst (IsWithin s) (sym passed.after.replays) (replay_within (row_named m.rows cuts) s p.steps)
 
 -- and has no empty column where nothing closed it
-pub passed_solid : (m : ModelParts) (cuts : List Row) (s : Sides) (p : Propagation) → IsPassed m cuts s p
+pub passed_solid : (m : ModelParts) (cuts : List Row) (s : Sides) (p : Propagation)
+    → IsPassed m cuts s p
     → p.run.outcome ≡ Open → HasNoEmpty p.sides
 passed_solid m cuts s p passed goes = subst (IsCause m.rows cuts p.sides) goes passed.cause
 
 -- what closed it makes a leaf with the steps, which holds at every value
-pub outcome_leaf : (m : ModelParts) (cuts : List Row) (s : Sides) (v : ℤ) (why : Closing) → IsModel m
+pub outcome_leaf : (m : ModelParts) (cuts : List Row) (s : Sides) (v : ℤ) (why : Closing)
+    → IsModel m
     → AreRows (length m.cols) m.root cuts → length s.lows ≡ length m.cols
     → closing_of (propagation_of m.rows cuts s).run.outcome ≡ Some why
     → IsValidLeaf m cuts v s (leaf_of (propagation_of m.rows cuts s).steps why)
@@ -123,13 +126,15 @@ outcome_leaf m cuts s v why valid of_cuts columns closes =
 pub bound_leaf : (m : ModelParts) (cuts : List Row) (s : Sides) (v : ℤ) (ys : List ℕ) → IsModel m
     → AreRows (length m.cols) m.root cuts → length s.lows ≡ length m.cols
     → (propagation_of m.rows cuts s).run.outcome ≡ Open
-    → AreMultipliers m cuts ys → v ≤ℤ lagrangian_bound m cuts (propagation_of m.rows cuts s).sides ys
+    → AreMultipliers m cuts ys
+    → v ≤ℤ lagrangian_bound m cuts (propagation_of m.rows cuts s).sides ys
     → IsValidLeaf m cuts v s
     (leaf_of (propagation_of m.rows cuts s).steps (Bound (pairs_of (length m.rows) ys)))
 bound_leaf m cuts s v ys valid of_cuts columns goes mults high =
     let p = propagation_of m.rows cuts s in
     let passed = passes_passed m cuts s valid of_cuts columns in
-    bound_gives_leaf m cuts v s p.sides p.steps ys passed.after (passed_solid m cuts s p passed goes) mults
+    bound_gives_leaf m cuts v s p.sides p.steps ys passed.after
+    (passed_solid m cuts s p passed goes) mults
     high
 
 -- a leaf that holds at a value closes its box there

@@ -30,7 +30,7 @@ use Rattle.task_steps.specs.declared.task_chunk.TaskChunk.{TaskChunk}
 use Rattle.task_steps.specs.declared.task_chunk.Progress.{Progress}
 use Rattle.task_steps.specs.declared.task_chunk.Worker.{Worker}
 use Rattle.task_steps.specs.Lemmas.Columns.{middle_above, middle_below, signed_between, widest_known}
-use Rattle.task_steps.specs.Lemmas.Feasible.{le_from_test}
+use Rattle.leaf_truth.proofs.TestResults.{int_le-true}
 
 pub paired_low : (s : Sides) (col : ℕ) (at : ℤ) → IsPaired s → IsPaired (low_child s col at)
 paired_low s col at paired =
@@ -264,8 +264,8 @@ splitting_good m l task limit col at bound keep valid fits task_fits cut signed 
               bound_signed = signed;
             };
           }) (end_words keep);
-      ready = λ slot c own same on seen below. kept_ready m l task limit col at bound keep slot c cut
-          fits after own same on seen below;
+      ready = λ slot c own same on seen below.
+          kept_ready m l task limit col at bound keep slot c cut fits after own same on seen below;
     }
 
 -- a point is found first
@@ -345,7 +345,8 @@ split_good m l task p a limit valid tried is =
     (kept_room task.nodes (int_at a.point col) at tried.task_fits.nodes)
 
 -- with no point found
-pub plain_good : (m : ModelParts) (l : Local) (task : NodeTask) (p : Progress) (a : Ascent) (limit : ℤ)
+pub plain_good : (m : ModelParts) (l : Local) (task : NodeTask) (p : Progress) (a : Ascent)
+    (limit : ℤ)
     (closed : Bool) → int_le limit a.bound ≡ closed → IsModel m → IsTried m l task p a limit
     → IsGoodChunk m l task limit
     (cond closed
@@ -356,11 +357,12 @@ pub plain_good : (m : ModelParts) (l : Local) (task : NodeTask) (p : Progress) (
     a.bound))
 plain_good m l task p a limit true is valid tried =
     closing_good m l task limit tried.fits tried.task_fits
-    (tried.closed (le_from_test limit a.bound is))
+    (tried.closed (int_le-true limit a.bound is))
 plain_good m l task p a limit false is valid tried = split_good m l task p a limit valid tried is
 
 -- with a point found first, whose value is the cutoff from then on
-pub found_first : (m : ModelParts) (l : Local) (task : NodeTask) (p : Progress) (a : Ascent) (value : ℤ)
+pub found_first : (m : ModelParts) (l : Local) (task : NodeTask) (p : Progress) (a : Ascent)
+    (value : ℤ)
     (point : List ℤ) (closed : Bool) → int_le value a.bound ≡ closed → IsModel m
     → IsTried m l task p a value → IsValued m value point → HasWords (Found value point)
     → IsGoodChunk m l task task.cutoff
@@ -375,7 +377,7 @@ found_first m l task p a value point true is valid tried valued words =
     found_good m l task task.cutoff value point (Closed task.node ∷ Done ∷ [])
     (record l { task = None }) valued words
     (closing_good m l task value tried.fits tried.task_fits
-    (tried.closed (le_from_test value a.bound is)))
+    (tried.closed (int_le-true value a.bound is)))
 found_first m l task p a value point false is valid tried valued words =
     let good = split_good m l task p a value valid tried is in
     found_good m l task task.cutoff value point _ _ valued words good

@@ -1,6 +1,6 @@
 -- Each chunk of a task is good.
 use Rattle.std.proofs.Common.{◌≡◌, ◌∙◌, ℕ, ◌<◌, ◌≤◌, ◌^◌, ◌⊎◌, inl, inr, Bool, true, false, ◌&&◌, List, [], length, ℤ, pos, ◌≤ℤ◌, ◌<ℤ◌, int_lt, int_le, unsigned_abs, Some, refl, sym, ap, arith}
-use Rattle.std.proofs.lemmas.Bool.{true≢false}
+use Rattle.std.proofs.lemmas.Bool.{and_parts, true≢false}
 use Rattle.std.proofs.lemmas.Int.{ints}
 use Rattle.std.proofs.lemmas.List.{length-map}
 use Rattle.std.proofs.lemmas.List.FromFn.{length-range_with_len}
@@ -26,7 +26,7 @@ use Rattle.leaf_truth.specs.Multipliers.{pairs_of}
 use Rattle.work_stamp.specs.Writable.{HasWords}
 use Rattle.work_stamp.specs.declared.entry.Entry.TheVariants.{Found}
 use Rattle.task_steps.specs.Fits.{FitsLocal, IsTask}
-use Rattle.task_steps.specs.Points.{is_feasible_at}
+use Rattle.round_dive.specs.Feasible.{is_feasible_at}
 use Rattle.task_steps.specs.Tasks.{after_passes, ascent_of, is_found, node_chunk, on_point, progress_of}
 use Rattle.task_steps.specs.declared.local.Local.{Local}
 use Rattle.task_steps.specs.declared.local.NodeTask.{NodeTask}
@@ -34,7 +34,7 @@ use Rattle.task_steps.specs.declared.task_chunk.Progress.{Progress}
 use Rattle.task_steps.specs.Lemmas.Bounds.{ascent_above, ascent_low}
 use Rattle.task_steps.specs.Lemmas.Boxes.{passed_small}
 use Rattle.task_steps.specs.Lemmas.Columns.{point_signed}
-use Rattle.task_steps.specs.Lemmas.Feasible.{and_true, both_true, feasible_from_test, test_from_feasible}
+use Rattle.round_dive.proofs.FeasiblePoints.{both_true, feasible_decides}
 use Rattle.task_steps.specs.Lemmas.NoColumns.{empty_feasible}
 use Rattle.task_steps.specs.Lemmas.TaskChunks.{IsGoodChunk, IsTried, closing_good, found_first, plain_good, worker_of}
 use Rattle.task_steps.specs.Lemmas.Reasons.{bound_leaf, leaf_closed, outcome_leaf, passed_solid, passed_within, passes_passed}
@@ -53,7 +53,7 @@ value_small m x valid feasible =
       model_costs_narrow m m m.costs refl refl valid,
     )
 
-found_words : (m : ModelParts) (x : List ℤ) → IsModel m → IsPaired m.root → IsFeasible m x
+pub found_words : (m : ModelParts) (x : List ℤ) → IsModel m → IsPaired m.root → IsFeasible m x
     → HasWords (Found (value_at m x) x)
 found_words m x valid paired feasible =
     let one_each = feasible.one_each in
@@ -82,7 +82,8 @@ column_cases m s limit a settled below (inl none) =
     absurd (omega (arith, ints, settled none, below))
 column_cases m s limit a settled below (inr some) = some
 
-module _ (m : ModelParts) (l : Local) (task : NodeTask) (valid : IsModel m) (paired : IsPaired m.root)
+module _ (m : ModelParts) (l : Local) (task : NodeTask) (valid : IsModel m)
+    (paired : IsPaired m.root)
     (fits : FitsLocal m l) (task_fits : IsTask m task) where
   abbrev passes : Propagation
   passes = propagation_of m.rows l.cuts task.bounds
@@ -166,7 +167,7 @@ module _ (m : ModelParts) (l : Local) (task : NodeTask) (valid : IsModel m) (pai
       (is_feasible_at m climb.point && int_lt (value_at m climb.point) task.cutoff)
       (below_test _ _ below)
       (both_true (is_feasible_at m climb.point) (int_lt (value_at m climb.point) task.cutoff)
-      (test_from_feasible m climb.point (empty_point goes none)) (below_test _ _ under)) in
+      ((feasible_decides m climb.point).1 (empty_point goes none)) (below_test _ _ under)) in
       absurd (true≢false (sym found ∙ missed))
 
   above_or_below : (a b : ℤ) → (a ≤ℤ b) ⊎ (b <ℤ a)
@@ -178,11 +179,11 @@ module _ (m : ModelParts) (l : Local) (task : NodeTask) (valid : IsModel m) (pai
   point_cases true is goes =
       let point = climb.point in
       let value = value_at m point in
-      let parts = and_true (int_lt climb.bound task.cutoff)
+      let parts = and_parts (int_lt climb.bound task.cutoff)
       (is_feasible_at m point && int_lt value task.cutoff) is in
       let feasible =
-      feasible_from_test m point
-      (and_true (is_feasible_at m point) (int_lt value task.cutoff) parts.1).0 in
+      (feasible_decides m point).0
+      (and_parts (is_feasible_at m point) (int_lt value task.cutoff) parts.1).0 in
       let small = value_small m point valid feasible in
       let settled : length m.cols ≡ 0
       → value ≤ℤ climb.bound = λ none. omega (arith, ints, empty_value none, empty_bound none) in

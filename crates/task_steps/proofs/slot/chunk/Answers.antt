@@ -7,8 +7,8 @@ pub returns-in_ok-append_rows-in-Cuts-clause-gives :
 returns-in_ok-append_rows-in-Cuts-clause-gives g c =
     gives_is c.args.model.now c.args.local.now c.in-Some.task c.in-Cuts.task
     c.as_slice-in-Cuts.result.now c.in_ok-chunk-in-Cuts.chunk c.in-Some.is c.in-Cuts.is
-    c.as_slice-in-Cuts.ensures c.in_ok-chunk-in-Cuts.ensures.value c.new-in-Cuts.result
-    c.new-in-Cuts.ensures _ refl
+    c.as_slice-in-Cuts.ensures c.in_ok-chunk-in-Cuts.ensures.value
+    c.chunk_without_records-in-Cuts.result c.chunk_without_records-in-Cuts.ensures
 
 pub returns-in_ok-append_rows-in-Cuts-clause-local :
     goal.returns-in_ok-append_rows-in-Cuts-clause-local
