@@ -7,6 +7,8 @@ pub mod Picking
 pub mod DiveEntries
 pub mod LimitCauses
 pub mod ChunkRecords
+pub mod PassSteps
+pub mod RecordSteps
 pub mod LaterViews
 pub mod RecordTruths
 pub mod RootPoints

@@ -52,6 +52,7 @@ use Rattle.task_steps.specs.Lemmas.TaskChunks.{worker_of}
 use Rattle.task_steps.specs.Lemmas.TaskCuts.{cut_rows}
 use Rattle.task_steps.proofs.ChunkRecords.{AreOfTask, CloseNone, IsNotAbove, IsOfTask, both_close_none, chunk_records, done_closes_none, found_closes_none, none_close_none}
 use Rattle.task_steps.proofs.DiveEntries.{AreOfDive, Ends, GoesOn, IsTrial, NoPoint, OnePoint, dive_gives}
+use Rattle.task_steps.proofs.RecordSteps.{record_steps}
 use Rattle.task_steps.proofs.LaterViews.{IsLater, later_view, up_to, view_append}
 use Rattle.task_steps.proofs.Truths.{history_is_read, law}
 use Rattle.task_steps.specs.declared.local.Task.TheVariants.{Nodes, Cuts, Dive}
@@ -273,6 +274,9 @@ module _ (m : ModelParts) (settings : SearchSettings) (valid : IsModel m) (paire
             (sym box) (subst (λ (cuts : List Row).
             IsValidLeaf m cuts last_view.cutoff task.bounds item.leaf) (sym front.whole)
             (leaf_holds_over_more m l.cuts front.more last_view.cutoff task.bounds item.leaf leaf));
+        few = record_steps m l.cuts (worker_of l) task place item valid stood.fits.cuts
+            (subst (λ (o : Option Task). at (chunk_of m l o).gives.records place ≡ Some item) works
+            there);
         closed = record { place = closed.0; key = key; own = own; there = closed.1 };
       }
 

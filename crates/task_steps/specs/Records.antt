@@ -1,5 +1,5 @@
 -- What the records of a history are worth. The settings of a search change nothing in these views.
-use Rattle.std.specs.Prelude.{ℕ, ◌≡◌, List, ◌++◌, Some}
+use Rattle.std.specs.Prelude.{ℕ, ◌≡◌, ◌≤◌, ◌^◌, List, ◌++◌, length, Some}
 use Rattle.ip_core.specs.declared.leaf.Record.{Record}
 use Rattle.ip_core.specs.declared.model.ModelParts.{ModelParts}
 use Rattle.search_truth.specs.Search.{cutoff_of}
@@ -38,14 +38,15 @@ pub record IsClosedBy (entries : List KeyedEntry) (slot name : ℕ) : Type 0 whe
   pub there : at entries place ≡ Some (keyed_entry key (Closed name))
 
 -- What a record of a slot says is so: its node was held, and on the node's box its leaf holds at
--- the last cutoff, over the last cuts. The slot has closed the node: what a slot dropped leaves no
--- record.
+-- the last cutoff, over the last cuts. The leaf has at most 2^21 steps. The slot has closed the
+-- node: what a slot dropped leaves no record.
 pub record IsTrueRecord (m : ModelParts) (entries : List KeyedEntry) (slot : ℕ) (item : Record)
     : Type 0 where
   pub node : WasHeld m entries item.node
   pub leaf : IsValidLeaf m (view_of m splits_alone entries).cuts
       (view_of m splits_alone entries).cutoff
       (box_of m.root (view_of m splits_alone entries).branches item.node) item.leaf
+  pub few : length item.leaf.steps ≤ 2 ^ 21
   pub closed : IsClosedBy entries slot item.node
 
 -- one of the records has this name
