@@ -43,9 +43,9 @@ pub fn limits_are_met(search: &Search, limits: &Limits)
 
 /// A law of the search, with nothing to run: what each record of the machine's history says is so.
 /// Its node was held, and its slot has closed it. On the node's box, which the splits on its path
-/// make of the root box and which never changed since, its leaf holds at the last cutoff. Each node
-/// that is closed has a record. The last cutoff is the value of the best point, or with no point
-/// one more than any value.
+/// make of the root box and which never changed since, its leaf holds at the last cutoff. The leaf
+/// has at most 2^21 steps. Each node that is closed has a record. The last cutoff is the value of the
+/// best point, or with no point one more than any value.
 pub fn records_hold(search: &Search, limits: &Limits)
     requires { AreLimits limits.now }
     ensures { RecordsHold search.now.model search.now.settings limits.now }

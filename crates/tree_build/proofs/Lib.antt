@@ -1,6 +1,12 @@
+pub mod AllItems
+pub mod CertificateRanges
+pub mod CutRanges
 pub mod Examples
 pub mod Finished
 pub mod Holding
+pub mod LeafRanges
+pub mod NodeCounts
+pub mod NodeRanges
 pub mod Partings
 pub mod RecordPlaces
 pub mod RecordsNamed

@@ -1,8 +1,11 @@
--- The certificate of the machine's history, if its search is finished, is a proof.
-use Rattle.std.proofs.Common.{◌≡◌, Bool, true, false, if◌then◌else◌, Option, Some, None, refl, sym, subst}
+-- The certificate of the machine's history, if its search is finished, is a proof and has a text.
+use Rattle.std.proofs.Common.{◌≡◌, ◌≤◌, ◌<◌, ◌*◌, ◌^◌, Bool, true, false, if◌then◌else◌, length, Option, Some, None, refl, sym, subst, arith}
 use Rattle.std.proofs.lemmas.Option.{none-some, same_Some}
+use Rattle.ip_core.specs.Models.{IsModel}
 use Rattle.ip_core.specs.declared.model.ModelParts.{ModelParts}
+use Rattle.stamp_machine.specs.Limits.{AreLimits}
 use Rattle.stamp_machine.specs.Machine.{history}
+use Rattle.stamp_machine.specs.Ranges.{FitStores}
 use Rattle.stamp_machine.specs.declared.history.History.{History}
 use Rattle.stamp_machine.specs.declared.limits.Limits.{Limits}
 use Rattle.node_pool.specs.Views.{is_finished}
@@ -15,8 +18,10 @@ use Rattle.task_steps.specs.Truth.{IsHistory, IsTrueAnswer, IsTrueStatus}
 use Rattle.task_steps.specs.declared.answer.Best.{Best}
 use Rattle.task_steps.specs.declared.answer.Status.TheVariants.{StoreLimit, WorkLimit}
 use Rattle.tree_cert.specs.declared.certificate.Certificate.{Certificate}
-use Rattle.tree_build.specs.Certificates.{certificate_of, if_finished}
-use Rattle.tree_build.specs.Laws.{IsFinished, IsProof, IsProvedAnswer, last_view}
+use Rattle.cert_text.specs.Certificates.{IsCertificate}
+use Rattle.tree_build.specs.Certificates.{certificate_of, if_finished, proof_of}
+use Rattle.tree_build.specs.Laws.{IsFinished, IsProof, IsProvedAnswer, IsSmallHistory, last_view}
+use Rattle.tree_build.proofs.CertificateRanges.{finished_has_text}
 use Rattle.tree_build.proofs.Finished.{finished_is_proof}
 
 -- the best point of a finished search
@@ -35,16 +40,18 @@ limit_cases : (halted : Bool) (made c : Certificate)
 limit_cases true made c is = none-some c is
 limit_cases false made c is = none-some c is
 
-status_cases : (m : ModelParts) (made c : Certificate) (best : Option Best) (halted t : Bool)
-    → (t ≡ true → IsFound m best → IsProof m made)
+-- what holds of the certificate of a search that is finished holds of one that was made
+status_cases : (P : Certificate → Type 0) (m : ModelParts) (made c : Certificate)
+    (best : Option Best) (halted t : Bool) → (t ≡ true → IsFound m best → P made)
     → IsTrueStatus m
     (if t then finished_status best else (if halted then StoreLimit else WorkLimit)) best
     → if_finished (if t then finished_status best else (if halted then StoreLimit else WorkLimit))
     made ≡ Some c
-    → IsProof m c
-status_cases m made c best halted true proof told is =
-    subst (IsProof m) (finished_cases m best made c is) (proof refl (found_of m best told))
-status_cases m made c best halted false proof told is = absurd (limit_cases halted made c is)
+    → P c
+status_cases P m made c best halted true holds told is =
+    subst P (finished_cases m best made c is) (holds refl (found_of m best told))
+status_cases P m made c best halted false holds told is =
+    absurd (limit_cases halted made c is)
 
 module _ (m : ModelParts) (settings : SearchSettings) (limits : Limits)
     (read : IsHistory m (history (rules m settings) limits).entries)
@@ -68,11 +75,27 @@ module _ (m : ModelParts) (settings : SearchSettings) (limits : Limits)
         found = subst (IsFound m) is found;
       })
 
-  pub answer_is_proved : IsProvedAnswer m settings limits
-  answer_is_proved =
+  -- what holds of the certificate of each finished search holds of that which was made
+  made_holds : (P : Certificate → Type 0)
+      → (IsFinished m h (best_found h.entries) → P (certificate_of m h (best_found h.entries)))
+      → (c : Certificate) → proof_of m h (answer_of m h.entries) ≡ Some c → P c
+  made_holds P holds c is =
       let best = best_found h.entries in
-      record {
-        each = λ c is. status_cases m (certificate_of m h best) c best (last_view m h).has_halt
-            (is_finished (last_view m h))
-            (λ over found. finished_is_proof m h best (finished best refl over found)) told.told is;
-      }
+      status_cases P m (certificate_of m h best) c best (last_view m h).has_halt
+      (is_finished (last_view m h)) (λ over found. holds (finished best refl over found)) told.told
+      is
+
+  -- the stores leave room for few entries, and each record's leaf has few steps
+  small_history : AreLimits limits → FitStores (rules m settings) limits → IsSmallHistory h
+  small_history ranges stores = record {
+    entries = omega (arith, stores.few, stores.all, ranges.small_store);
+    steps = λ slot place item there. (records.true_records slot place item there).few;
+  }
+
+  pub answer_is_proved : IsModel m → AreLimits limits → FitStores (rules m settings) limits
+      → IsProvedAnswer m settings limits
+  answer_is_proved valid ranges stores = record {
+    each = made_holds (IsProof m) (finished_is_proof m h (best_found h.entries));
+    text = made_holds IsCertificate (λ over.
+        finished_has_text m h (best_found h.entries) valid over (small_history ranges stores));
+  }

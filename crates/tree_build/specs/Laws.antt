@@ -1,5 +1,6 @@
 -- What a finished search shows by its certificate.
-use Rattle.std.specs.Prelude.{ℕ, ◌≡◌, true, List, Option, Some}
+use Rattle.std.specs.Prelude.{ℕ, ◌≡◌, ◌≤◌, ◌<◌, ◌^◌, true, List, length, Option, Some}
+use Rattle.ip_core.specs.Models.{IsModel}
 use Rattle.ip_core.specs.declared.leaf.Record.{Record}
 use Rattle.ip_core.specs.declared.model.ModelParts.{ModelParts}
 use Rattle.search_truth.specs.Search.{cutoff_of}
@@ -25,6 +26,7 @@ use Rattle.task_steps.specs.declared.answer.Best.{Best}
 use Rattle.tree_cert.specs.Trees.{IsTree}
 use Rattle.tree_cert.specs.declared.certificate.Certificate.{Certificate}
 use Rattle.cert_check.specs.Verdicts.{IsAccepted}
+use Rattle.cert_text.specs.Certificates.{IsCertificate}
 use Rattle.tree_build.specs.Certificates.{certificate_of, proof_of}
 use Rattle.tree_build.specs.ProofTrees.{proof_tree}
 
@@ -55,6 +57,12 @@ pub record IsFinished (m : ModelParts) (history : History) (best : Option Best) 
   pub cutoff : (last_view m history).cutoff ≡ cutoff_of m (best_point best)
   pub found : IsFound m best
 
+-- few entries, and few steps in the leaf of each record
+pub record IsSmallHistory (history : History) : Type 0 where
+  pub entries : length history.entries < 2 ^ 31
+  pub steps : (slot place : ℕ) (item : Record)
+      → at (records_of history slot) place ≡ Some item → length item.leaf.steps ≤ 2 ^ 21
+
 -- the nodes are one tree, and the checker accepts the certificate
 pub record IsProof (m : ModelParts) (c : Certificate) : Type 0 where
   pub tree : IsTree c.nodes
@@ -70,11 +78,19 @@ abbrev pub FinishedIsProof : Type 0
 FinishedIsProof = (m : ModelParts) (history : History) (best : Option Best)
     → IsFinished m history best → IsProof m (certificate_of m history best)
 
--- a certificate that was made is a proof
+-- the certificate of a finished search of few entries and steps has a text that is read as it
+abbrev pub FinishedHasText : Type 0
+FinishedHasText = (m : ModelParts) (history : History) (best : Option Best) → IsModel m
+    → IsFinished m history best → IsSmallHistory history
+    → IsCertificate (certificate_of m history best)
+
+-- a certificate that was made is a proof, and has a text that is read as it
 pub record IsProofIfMade (m : ModelParts) (made : Option Certificate) : Type 0 where
   pub each : (c : Certificate) → made ≡ Some c → IsProof m c
+  pub text : (c : Certificate) → made ≡ Some c → IsCertificate c
 
--- the certificate of the machine's history, which is made if its search is finished, is a proof
+-- the certificate of the machine's history, which is made if its search is finished, is a proof,
+-- and has a text that is read as it
 abbrev pub IsProvedAnswer : ModelParts → SearchSettings → Limits → Type 0
 IsProvedAnswer m settings limits = IsProofIfMade m (proof_of m (history (rules m settings) limits)
     (answer_of m (history (rules m settings) limits).entries))

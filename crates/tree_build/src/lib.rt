@@ -12,7 +12,9 @@ mod record_place;
 mod tree;
 
 pub use certificate::build;
-pub use laws::{finished_is_proof, finished_searches_are_accepted, trees_are_whole};
+pub use laws::{
+    finished_has_text, finished_is_proof, finished_searches_are_accepted, trees_are_whole,
+};
 
 #[cfg(test)]
 mod tests;
