@@ -1,8 +1,6 @@
+use crate::log_tests::{LOG_OF_HALVES, LOG_WITHOUT_WORK};
 use crate::run;
-use crate::tests::{
-    COVER, HALVES, LOG_OF_HALVES, LOG_WITHOUT_WORK, ODD, ONE, ONE_UNENDED, UNBOUNDED, numbers,
-    text, words,
-};
+use crate::tests::{COVER, HALVES, ODD, ONE, ONE_UNENDED, UNBOUNDED, numbers, text, words};
 use ip_core::{List, OutOfMemory};
 use std::alloc::Global;
 use std::test::Fail;
@@ -66,6 +64,35 @@ leaf 0 bound 1 r0 341
 end
 ";
 
+/// That 2 is the least x with 2x >= 3, by x >= 2, which follows by half of it.
+const CERT_WITH_CUTS: &[u8] = b"xsearch certificate 1
+size 1 1
+value 2
+point 2
+cuts 2
+gomory 2 1 r0 1
+gomory 2048 1 r0 512
+tree 1
+leaf 1 r0 0 L bound 0
+end
+";
+
+/// The first chunk for cuts counts 1, thirteen rounds of 4 and 16, the second 1, thirteen rounds of
+/// 10 and 48. The node's counts 1, two passes of 4 and twelve rounds of 10.
+const LOG_WITH_CUTS: &[u8] = b"xsearch log 1
+tasks 1 work 200000000 store 4194304 cuts yes heuristics no
+0 0 cutloop
+69 0 gomory 2 1 r0 1
+69 0 gomory 2048 1 r0 512
+248 0 done
+248 0 start 0
+377 0 found 2 2
+377 0 closed 0
+377 0 done
+end 0 377
+status optimal
+";
+
 const CERT_OF_TWO_NODES: &[u8] = b"xsearch certificate 1
 size 1 1
 value 2
@@ -96,11 +123,18 @@ struct Checked {
     output: &'static [u8],
 }
 
-const CHECKED: [Checked; 13] = [
+const CHECKED: [Checked; 14] = [
     Checked {
         words: "check m c",
         model: COVER,
         cert: CERT_OF_COVER,
+        status: 0,
+        output: b"accepted\n",
+    },
+    Checked {
+        words: "check m c",
+        model: COVER,
+        cert: CERT_WITH_CUTS,
         status: 0,
         output: b"accepted\n",
     },
@@ -286,9 +320,9 @@ struct Written {
     log: Option<&'static [u8]>,
 }
 
-const WRITTEN: [Written; 9] = [
+const WRITTEN: [Written; 10] = [
     Written {
-        words: "solve m --tasks=1 --cert=c",
+        words: "solve m --tasks=1 --cuts=no --cert=c",
         model: ODD,
         shelf_calls: &[],
         puts: &[],
@@ -297,13 +331,23 @@ const WRITTEN: [Written; 9] = [
         log: None,
     },
     Written {
-        words: "alone m --tasks=1 --cert=c",
+        words: "alone m --tasks=1 --cuts=no --cert=c",
         model: HALVES,
         shelf_calls: &[],
         puts: &[],
         status: 0,
         cert: Some(CERT_OF_HALVES),
         log: None,
+    },
+    // two cuts are found before the first node
+    Written {
+        words: "solve m --tasks=1 --cert=c --log=l",
+        model: COVER,
+        shelf_calls: &[],
+        puts: &[],
+        status: 0,
+        cert: Some(CERT_WITH_CUTS),
+        log: Some(LOG_WITH_CUTS),
     },
     // a search that a limit ends has no certificate
     Written {
@@ -334,7 +378,7 @@ const WRITTEN: [Written; 9] = [
         log: None,
     },
     Written {
-        words: "solve m --cert=c --log=l",
+        words: "solve m --cuts=no --cert=c --log=l",
         model: ODD,
         shelf_calls: &[3],
         puts: &[],
@@ -343,7 +387,7 @@ const WRITTEN: [Written; 9] = [
         log: Some(b"xsearch lo"),
     },
     Written {
-        words: "solve m --tasks=1 --cert=c --log=l",
+        words: "solve m --tasks=1 --cuts=no --cert=c --log=l",
         model: HALVES,
         shelf_calls: &[4],
         puts: &[1],

@@ -53,4 +53,6 @@ fn command_words(rt: &(impl Env + AllocGlobal)) -> io::Result<Vec<String>> {
 #[cfg(test)]
 mod certificate_tests;
 #[cfg(test)]
+mod log_tests;
+#[cfg(test)]
 mod tests;

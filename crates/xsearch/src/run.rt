@@ -18,10 +18,11 @@ use xsearch_words::{Job, JobError, Shelf, Sink, settings};
 /// `solve MODEL` and `alone MODEL` read the model file MODEL from the shelf, admit it, search it,
 /// write the certificate of a finished search to the file NAME of `--cert=NAME` and the log to that
 /// of `--log=NAME`, where these are given, and put the answer on the sink; `--tasks=N` sets the
-/// number of slots that search, `--work=N` and `--store=N` their limits, and `--default-upper=N` the
-/// upper bound of columns that have none. `check MODEL CERT` reads the model file, admits it, reads
-/// the certificate file CERT and puts whether the checker accepts it. `show MODEL` puts the canonical
-/// text of the file's model, and `gen NUMBER` that of a sample model.
+/// number of slots that search, `--work=N` and `--store=N` their limits, `--cuts=yes|no` whether cuts
+/// are derived, which they are without it, and `--default-upper=N` the upper bound of columns that
+/// have none. `check MODEL CERT` reads the model file, admits it, reads the certificate file CERT and
+/// puts whether the checker accepts it. `show MODEL` puts the canonical text of the file's model, and
+/// `gen NUMBER` that of a sample model.
 ///
 /// The status is 0 where an optimal or infeasible answer, an acceptance or a canonical text went out,
 /// 2 where the words ask nothing, 3 and 4 where the limit on work or the store ended the search, 5

@@ -1,5 +1,5 @@
 -- Worked rows of the words.
-use Rattle.std.proofs.Common.{ℕ, ◌≡◌, false, List, [], ◌∷◌, Option, Some, None, codes, refl}
+use Rattle.std.proofs.Common.{ℕ, ◌≡◌, true, false, List, [], ◌∷◌, Option, Some, None, codes, refl}
 use Rattle.xsearch_words.specs.Jobs.{job}
 use Rattle.xsearch_words.specs.declared.job.Job.{Job}
 use Rattle.xsearch_words.specs.declared.job.Job.TheVariants.{Solve, Alone, Check, Show, Gen}
@@ -10,7 +10,7 @@ search model tasks work store default_upper = record {
   model = model;
   cert = None;
   log = None;
-  tune = record { tasks = tasks; work = work; store = store; cuts = false; heuristics = false };
+  tune = record { tasks = tasks; work = work; store = store; cuts = true; heuristics = false };
   default_upper = default_upper;
 }
 
@@ -19,6 +19,9 @@ with_log name asked = record asked { log = Some name }
 
 abbrev with_cert : List ℕ → SolveJob → SolveJob
 with_cert name asked = record asked { cert = Some name }
+
+abbrev without_cuts : SolveJob → SolveJob
+without_cuts asked = record asked { tune = record (asked.tune) { cuts = false } }
 
 abbrev solve : List ℕ → ℕ → Option ℕ → Option Job
 solve model work default_upper = Some (Solve (search model 4 work 1048576 default_upper))
@@ -112,6 +115,15 @@ too_great_store = refl
 
 store_of_four_tasks : job (codes "solve" ∷ codes "m3" ∷ codes "--store=1048577" ∷ []) ≡ None
 store_of_four_tasks = refl
+
+cuts_without_being_told : job (codes "solve" ∷ codes "m3" ∷ codes "--cuts=yes" ∷ []) ≡ job (codes "solve" ∷ codes "m3" ∷ [])
+cuts_without_being_told = refl
+
+no_cuts : job (codes "alone" ∷ codes "--cuts=no" ∷ codes "m3" ∷ []) ≡ Some (Alone (without_cuts (search (codes "m3") 4 200000000 1048576 None)))
+no_cuts = refl
+
+no_switch : job (codes "solve" ∷ codes "m3" ∷ codes "--cuts=No" ∷ []) ≡ None
+no_switch = refl
 
 alone : job (codes "alone" ∷ codes "m1" ∷ codes "--default-upper=7" ∷ []) ≡ Some (Alone (search (codes "m1") 4 200000000 1048576 (Some 7)))
 alone = refl

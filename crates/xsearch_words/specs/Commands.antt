@@ -3,7 +3,7 @@ use Rattle.std.specs.Prelude.{ℕ, List, [], ◌∷◌, codes, Option, Some, Non
 use Rattle.xsearch_words.specs.declared.command.Command.{Command}
 use Rattle.xsearch_words.specs.declared.command.Command.TheVariants.{Solve, Alone, Check, Show, Gen}
 use Rattle.xsearch_words.specs.declared.command.Key.{Key}
-use Rattle.xsearch_words.specs.declared.command.Key.TheVariants.{Tasks, Work, Store, DefaultUpper, Cert, Log}
+use Rattle.xsearch_words.specs.declared.command.Key.TheVariants.{Tasks, Work, Store, Cuts, DefaultUpper, Cert, Log}
 
 -- the command of a word
 abbrev pub command_of : List ℕ → Option Command
@@ -25,7 +25,7 @@ name_count Gen = 1
 
 -- the keys of a command that searches
 abbrev pub search_keys : List Key
-search_keys = Tasks ∷ Work ∷ Store ∷ DefaultUpper ∷ Cert ∷ Log ∷ []
+search_keys = Tasks ∷ Work ∷ Store ∷ Cuts ∷ DefaultUpper ∷ Cert ∷ Log ∷ []
 
 -- the keys of the command
 abbrev pub keys_of : Command → List Key
@@ -40,6 +40,7 @@ abbrev pub front : Key → List ℕ
 front Tasks = codes "--tasks="
 front Work = codes "--work="
 front Store = codes "--store="
+front Cuts = codes "--cuts="
 front DefaultUpper = codes "--default-upper="
 front Cert = codes "--cert="
 front Log = codes "--log="

@@ -15,8 +15,8 @@ use Rattle.xsearch_words.specs.declared.job.Job.TheVariants.{Solve, Alone, Check
 use Rattle.xsearch_words.specs.declared.job.SolveJob.{SolveJob}
 use Rattle.xsearch_words.specs.declared.job.CheckJob.{CheckJob}
 
--- `MODEL [--tasks=N] [--work=N] [--store=N] [--default-upper=N] [--cert=NAME] [--log=NAME]` after
--- `solve` or `alone`, with names that differ
+-- `MODEL [--tasks=N] [--work=N] [--store=N] [--cuts=yes|no] [--default-upper=N] [--cert=NAME]
+-- [--log=NAME]` after `solve` or `alone`, with names that differ
 abbrev pub solve_job : List (List ℕ) → Option SolveJob
 solve_job words =
     when_some (name_at 0 words) (λ model.

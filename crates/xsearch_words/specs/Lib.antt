@@ -16,4 +16,5 @@ pub mod StdoutSink
 pub mod Streams
 pub mod SureShelf
 pub mod SureSink
+pub mod Switches
 pub mod Tunes

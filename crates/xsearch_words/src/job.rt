@@ -56,8 +56,8 @@ pub struct CheckJob {
 /// What the words of the command line ask, without the program's name.
 ///
 /// The first word is the command, which is one of `solve MODEL` and `alone MODEL`, both with the
-/// options `--tasks=N`, `--work=N`, `--store=N`, `--default-upper=N`, `--cert=NAME` and
-/// `--log=NAME`, `check MODEL CERT` with the option `--default-upper=N`, `show MODEL` and
+/// options `--tasks=N`, `--work=N`, `--store=N`, `--cuts=yes|no`, `--default-upper=N`, `--cert=NAME`
+/// and `--log=NAME`, `check MODEL CERT` with the option `--default-upper=N`, `show MODEL` and
 /// `gen NUMBER`. Each further word is `--key=value` with a key of the command, at most once each, or
 /// a name: a word that isn't empty and doesn't begin with `-`. There are exactly as many names as the
 /// command has, and options may stand before, between and after them.
@@ -66,7 +66,7 @@ pub struct CheckJob {
 /// it; N of `--work` is at most 10^12, and 200,000,000 without it; N of `--store`, in words for
 /// each task, is 64 to 2^22, and without it 2^22 divided by the number of tasks and rounded down;
 /// tasks times store is at most 2^22; N of `--default-upper` is at most 2^31; NUMBER is at most
-/// 2^64 - 1. The NAMEs of `--cert` and `--log` are names that differ from MODEL and from each other,
+/// 2^64 - 1. Without `--cuts` it is yes. The NAMEs of `--cert` and `--log` are names that differ from MODEL and from each other,
 /// byte for byte. `Words` is answered exactly where the words ask nothing by these rules, unless
 /// memory runs out.
 pub fn settings(alloc: Global, words: &[String]) -> Result<Job, JobError>

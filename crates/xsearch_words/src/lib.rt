@@ -23,6 +23,7 @@ mod stdout_sink;
 mod streams;
 mod sure_shelf;
 mod sure_sink;
+mod switch;
 mod tune;
 
 pub use error::{JobError, OutputError, ShelfError, WriteError};

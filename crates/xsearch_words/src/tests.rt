@@ -387,7 +387,7 @@ const PLAIN: Tune = Tune {
     tasks: 4,
     work: 200_000_000,
     store: 1_048_576,
-    cuts: false,
+    cuts: true,
     heuristics: false,
 };
 
@@ -395,7 +395,7 @@ const LITTLE_WORK: Tune = Tune {
     tasks: 4,
     work: 7,
     store: 1_048_576,
-    cuts: false,
+    cuts: true,
     heuristics: false,
 };
 
@@ -403,7 +403,7 @@ const MOST_WORK: Tune = Tune {
     tasks: 4,
     work: 1_000_000_000_000,
     store: 1_048_576,
-    cuts: false,
+    cuts: true,
     heuristics: false,
 };
 
@@ -411,7 +411,7 @@ const THREE_TASKS: Tune = Tune {
     tasks: 3,
     work: 200_000_000,
     store: 1_398_101,
-    cuts: false,
+    cuts: true,
     heuristics: false,
 };
 
@@ -419,7 +419,7 @@ const ONE_TASK: Tune = Tune {
     tasks: 1,
     work: 200_000_000,
     store: 4_194_304,
-    cuts: false,
+    cuts: true,
     heuristics: false,
 };
 
@@ -427,7 +427,7 @@ const MOST_TASKS: Tune = Tune {
     tasks: 64,
     work: 200_000_000,
     store: 65_536,
-    cuts: false,
+    cuts: true,
     heuristics: false,
 };
 
@@ -435,11 +435,19 @@ const LEAST_STORE: Tune = Tune {
     tasks: 64,
     work: 0,
     store: 64,
+    cuts: true,
+    heuristics: false,
+};
+
+const WITHOUT_CUTS: Tune = Tune {
+    tasks: 1,
+    work: 200_000_000,
+    store: 4_194_304,
     cuts: false,
     heuristics: false,
 };
 
-const CASES: [Case; 55] = [
+const CASES: [Case; 63] = [
     (&["solve", "m3"], Want::Solve("m3", PLAIN, None)),
     (
         &["solve", "--work=007", "m3"],
@@ -470,6 +478,20 @@ const CASES: [Case; 55] = [
         &["alone", "--store=64", "m3", "--work=0", "--tasks=64"],
         Want::Alone("m3", LEAST_STORE, None),
     ),
+    (
+        &["solve", "--cuts=no", "m3", "--tasks=1"],
+        Want::Solve("m3", WITHOUT_CUTS, None),
+    ),
+    (
+        &["alone", "m3", "--cuts=yes"],
+        Want::Alone("m3", PLAIN, None),
+    ),
+    (&["solve", "m3", "--cuts"], Want::Nothing),
+    (&["solve", "m3", "--cuts="], Want::Nothing),
+    (&["solve", "m3", "--cuts=Yes"], Want::Nothing),
+    (&["solve", "m3", "--cuts=no "], Want::Nothing),
+    (&["solve", "m3", "--cuts=no", "--cuts=no"], Want::Nothing),
+    (&["show", "m3", "--cuts=no"], Want::Nothing),
     (
         &["alone", "m1", "--default-upper=7"],
         Want::Alone("m1", PLAIN, Some(7)),
