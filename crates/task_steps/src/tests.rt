@@ -570,7 +570,7 @@ fn dives_when_due(alloc: Global) -> Result<bool, Fail> {
     };
     let (history, answer) = answer(alloc, &search, &limits)?;
     let counts = starts_before_dives(alloc, &history)?;
-    Ok(counts.as_slice() == [1, 9, 17] && is_answer(&answer, Status::Infeasible, None))
+    Ok(counts.as_slice() == [1, 9, 17].as_slice() && is_answer(&answer, Status::Infeasible, None))
 }
 
 #[test]

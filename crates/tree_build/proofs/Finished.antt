@@ -1,5 +1,6 @@
 -- The certificate of a finished search is a proof.
 use Rattle.std.proofs.Common.{◌≡◌, ◌∙◌, ℕ, ◌+◌, inl, true, nat_eq, List, [], ◌∷◌, ◌++◌, append_assoc, length, ℤ, Option, Some, None, Result, refl, sym, ap, subst, arith}
+use Rattle.std.proofs.lemmas.Bool.{and_parts}
 use Rattle.std.proofs.lemmas.List.{append-nil, nil_from_length}
 use Rattle.std.proofs.lemmas.Option.{none-some, same_Some}
 use Rattle.ip_core.specs.declared.derivation.Derivation.{Derivation}
@@ -24,7 +25,6 @@ use Rattle.node_pool.specs.Views.{View, after_entry, fresh_view, is_finished, op
 use Rattle.task_steps.specs.Answers.{splits_alone}
 use Rattle.task_steps.specs.Claims.{count_left, count_name, count_open}
 use Rattle.task_steps.specs.Lemmas.Entries.{base_of}
-use Rattle.task_steps.specs.Lemmas.Feasible.{and_true}
 use Rattle.task_steps.specs.Lemmas.NameCounts.{eq_from_test}
 use Rattle.task_steps.specs.Sound.{IsFound, best_point}
 use Rattle.task_steps.specs.declared.answer.Best.{Best}
@@ -43,7 +43,7 @@ use Rattle.tree_build.proofs.WholeTrees.{trees_are_whole}
 
 none_left : (v : View) (name : ℕ) → is_finished v ≡ true → count_left v name ≡ 0
 none_left v name h =
-    let parts = and_true (nat_eq (length v.open_nodes) 0) (nat_eq (length v.held_nodes) 0) h in
+    let parts = and_parts (nat_eq (length v.open_nodes) 0) (nat_eq (length v.held_nodes) 0) h in
     let opened = ap (count_open name) (nil_from_length v.open_nodes (eq_from_test (length v.open_nodes) 0 parts.0)) in
     let held = ap (count_name name) (nil_from_length v.held_nodes (eq_from_test (length v.held_nodes) 0 parts.1)) in
     omega (arith, opened, held)
