@@ -93,7 +93,7 @@ fn first_chunk<P: Pulse>(
                 }),
             })
         }
-        Ended::Conflict(_) | Ended::Empty(_) => { last_chunk(List::new(alloc), 1 + run.work) }
+        Ended::Conflict(_) | Ended::Empty(_) => last_chunk(List::new(alloc), 1 + run.work),
     }
 }
 

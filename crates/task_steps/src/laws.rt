@@ -10,8 +10,9 @@ ghost use Rattle.task_steps.specs.Truth.{IsHistory, IsTrueAnswer};
 use crate::Search;
 use stamp_machine::Limits;
 
-/// A law of the search, with nothing to run: at every history, a task that is taken takes the open
-/// node of the least bound, and of equal bounds the one of the least name.
+/// A law of the search, with nothing to run: at every history, a task that is taken looks for cuts
+/// where none has, or it takes the open node of the least bound, and of equal bounds the one of the
+/// least name, or dives from that node where a dive is due.
 pub fn best_nodes_are_taken()
     ensures { BestIsTaken }
 {}
