@@ -1,5 +1,5 @@
 -- What a slot that looks for cuts leaves after a chunk.
-use Rattle.std.proofs.Common.{◌≡◌, ◌∙◌, ℕ, List, [], ◌++◌, Option, Some, sym, ap, ap₂, subst}
+use Rattle.std.proofs.Common.{◌≡◌, ◌∙◌, List, [], ◌++◌, Option, Some, sym, ap, ap₂, subst}
 use Rattle.ip_core.specs.declared.model.ModelParts.{ModelParts}
 use Rattle.ip_core.specs.declared.row.Row.{Row}
 use Rattle.work_stamp.specs.declared.task.Chunk.{Chunk}

@@ -1,5 +1,5 @@
 -- What entries a chunk of a dive gives: it finds at most one point, and then ends or goes on.
-use Rattle.std.proofs.Common.{◌≡◌, ℕ, Bool, true, false, cond, List, [], ◌∷◌, ◌++◌, ℤ, int_lt, Option, Some, None, refl}
+use Rattle.std.proofs.Common.{Bool, true, false, cond, List, [], ◌∷◌, ◌++◌, ℤ, int_lt, Option, Some, None}
 use Rattle.ip_core.specs.Truth.{value_at}
 use Rattle.ip_core.specs.declared.model.ModelParts.{ModelParts}
 use Rattle.ip_core.specs.declared.row.Row.{Row}

@@ -1,13 +1,12 @@
 -- What stays and what falls as a history grows.
-use Rattle.std.proofs.Common.{◌≡◌, ◌∙◌, ℕ, zero, suc, ◌+◌, Bool, true, false, ◌||◌, List, [], ◌∷◌, ◌++◌, ℤ, ◌≤ℤ◌, Some, refl, sym, subst, arith}
+use Rattle.std.proofs.Common.{◌≡◌, ◌∙◌, ℕ, zero, suc, Bool, true, false, ◌||◌, List, [], ◌∷◌, ◌++◌, ℤ, ◌≤ℤ◌, Some, refl, sym, subst, arith}
 use Rattle.std.specs.Int.{int_min}
 use Rattle.std.specs.Int.Signed.{≤ℤ_refl}
 use Rattle.std.proofs.lemmas.Bool.{false≢true}
 use Rattle.std.proofs.lemmas.Int.{ints, clamps}
 use Rattle.ip_core.specs.declared.model.ModelParts.{ModelParts}
 use Rattle.work_stamp.specs.Histories.{FollowInTurn, keyed_entry}
-use Rattle.work_stamp.specs.declared.entry.Entry.{Entry}
-use Rattle.work_stamp.specs.declared.entry.Entry.TheVariants.{Start, CutStart, HeurStart, Done, Found, Cut, Split, Closed, Halt}
+use Rattle.work_stamp.specs.declared.entry.Entry.TheVariants.{Found}
 use Rattle.work_stamp.specs.declared.key.Key.{Key}
 use Rattle.work_stamp.specs.declared.stamped.KeyedEntry.{KeyedEntry}
 use Rattle.stamp_machine.specs.Slots.{at}
@@ -16,11 +15,10 @@ use Rattle.node_pool.specs.Branchings.{box_of}
 use Rattle.node_pool.specs.Laws.{HasCutsOf}
 use Rattle.node_pool.specs.Lemmas.Cuts.{more_cuts, same_cuts}
 use Rattle.node_pool.specs.Lemmas.Joining.{view_next}
-use Rattle.node_pool.specs.Views.{View, after_entry, fresh_view, is_known, open_node, view_after, view_of, with_children}
-use Rattle.node_pool.specs.declared.node.OpenNode.{OpenNode}
+use Rattle.node_pool.specs.Views.{View, after_entry, fresh_view, is_known, view_after, view_of}
 use Rattle.node_pool.specs.declared.settings.SearchSettings.{SearchSettings}
 use Rattle.task_steps.specs.Agrees.{MayFollowIn}
-use Rattle.task_steps.specs.Lemmas.Entries.{IsNext, base_of, makes, next_of}
+use Rattle.task_steps.specs.Lemmas.Entries.{IsNext, makes, next_of}
 
 -- The view `w` after further entries. Known names have kept their boxes, cuts stay, and the cutoff
 -- is at most what it was, and at most each value that these entries find.

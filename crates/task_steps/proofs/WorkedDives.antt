@@ -1,13 +1,11 @@
 -- Dives worked out by hand.
-use Rattle.std.proofs.Common.{◌≡◌, ℕ, [], ◌∷◌, ℤ, None, Some, pos, true, false, refl}
-use Rattle.ip_core.specs.Sides.{Sides}
+use Rattle.std.proofs.Common.{◌≡◌, [], ◌∷◌, None, Some, pos, true, false, refl}
 use Rattle.ip_core.specs.declared.leaf.Closing.TheVariants.{Conflict}
 use Rattle.ip_core.specs.declared.row_ref.RowRef.TheVariants.{Model}
 use Rattle.work_stamp.specs.declared.entry.Entry.TheVariants.{Start, HeurStart, Found, Split, Closed, Done}
 use Rattle.stamp_machine.specs.Machine.{as_history, moves}
 use Rattle.task_steps.specs.DiveTasks.{dive_chunk}
 use Rattle.task_steps.specs.Rules.{rules}
-use Rattle.task_steps.specs.declared.local.DiveTask.{DiveTask}
 use Rattle.task_steps.proofs.WorkedRows.{free, odd, record_of, unit}
 use Rattle.task_steps.proofs.WorkedRuns.{by}
 

@@ -13,7 +13,7 @@ use Rattle.work_stamp.specs.declared.entry.Entry.TheVariants.{Found, Split, Clos
 use Rattle.task_steps.specs.Tasks.{child_name, next_ordinal, node_chunk}
 use Rattle.task_steps.specs.declared.local.NodeTask.{NodeTask}
 use Rattle.task_steps.specs.declared.task_chunk.Worker.{Worker}
-use Rattle.task_steps.specs.declared.local.Task.TheVariants.{Nodes, Cuts}
+use Rattle.task_steps.specs.declared.local.Task.TheVariants.{Nodes}
 
 -- a closed node with the tightenings of its box, and what then closes it
 abbrev pub record_of : ℕ → List Tighten → Closing → Record

@@ -1,5 +1,5 @@
 -- What a slot between tasks does.
-use Rattle.std.proofs.Common.{◌≡◌, ℕ, Bool, true, false, ◌||◌, cond, nat_eq, List, [], ◌∷◌, Option, is_none, Some, None, All, refl, sym, ap, subst, arith, ◌&&◌}
+use Rattle.std.proofs.Common.{◌≡◌, ℕ, Bool, true, false, ◌||◌, cond, nat_eq, List, [], ◌∷◌, Option, is_none, Some, None, All, refl, sym, subst, arith, ◌&&◌}
 use Rattle.std.proofs.lemmas.Bool.{and_parts}
 use Rattle.std.proofs.lemmas.List.Elements.{All-cons, All-head, All-nil}
 use Rattle.std.proofs.lemmas.Option.{none-some, same_Some}
@@ -20,7 +20,6 @@ use Rattle.task_steps.specs.Fits.{FitsLocal, FitsView, IsBoxed}
 use Rattle.task_steps.specs.Rules.{begin_by, begin_of, first_cuts, local_diving, local_on, local_with}
 use Rattle.task_steps.specs.declared.local.Local.{Local}
 use Rattle.task_steps.specs.Lemmas.NameCounts.{eq_from_test, ne_from_test}
-use Rattle.task_steps.specs.declared.local.Task.TheVariants.{Nodes, Cuts, Dive}
 
 node_named : (heuristic : Bool) (o : Option ℕ) (name : ℕ) → node_pick heuristic o ≡ Node name
     → o ≡ Some name

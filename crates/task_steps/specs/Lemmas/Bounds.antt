@@ -1,5 +1,5 @@
 -- What the bound of an ascent is at least.
-use Rattle.std.proofs.Common.{◌≡◌, ◌^◌, [], length, pos, neg_ℤ, ◌≤ℤ◌, refl, arith, List}
+use Rattle.std.proofs.Common.{◌≡◌, ◌^◌, length, pos, neg_ℤ, ◌≤ℤ◌, refl, arith, List}
 use Rattle.std.proofs.lemmas.Int.{ints}
 use Rattle.ip_core.specs.Boxes.{IsWithinReach, least_value}
 use Rattle.ip_core.specs.Models.{IsModel}

@@ -1,5 +1,5 @@
 -- What a chunk counts at most.
-use Rattle.std.proofs.Common.{◌≡◌, ◌∙◌, ℕ, zero, suc, ◌+◌, ◌*◌, ◌^◌, ◌≤◌, ◌<◌, Bool, true, false, if◌then◌else◌, List, [], length, Option, Some, None, ap, arith}
+use Rattle.std.proofs.Common.{◌≡◌, ℕ, zero, suc, ◌+◌, ◌*◌, ◌^◌, ◌≤◌, ◌<◌, Bool, true, false, if◌then◌else◌, List, [], length, Option, Some, None, ap, arith}
 use Rattle.std.proofs.lemmas.Nat.{mul-le}
 use Rattle.ip_core.specs.Models.{IsModel, term_count}
 use Rattle.ip_core.specs.Sides.{Sides}

@@ -1,11 +1,10 @@
 -- What a chunk that looks for cuts gives: cuts that fit, entries that have words, and each of them
 -- due in its turn.
-use Rattle.std.proofs.Common.{◌≡◌, ◌∙◌, ℕ, suc, ◌+◌, ◌*◌, ◌^◌, ◌≤◌, ◌<◌, ◌==◌, Bool, true, false, cond, List, [], ◌∷◌, ◌++◌, append_assoc, length, map, All, Option, Some, None, Result, Ok, refl, sym, ap, subst, arith}
+use Rattle.std.proofs.Common.{◌≡◌, ◌∙◌, ℕ, suc, ◌+◌, ◌*◌, ◌^◌, ◌≤◌, ◌<◌, ◌==◌, Bool, true, false, cond, List, [], ◌∷◌, ◌++◌, append_assoc, length, All, Option, Some, None, Result, Ok, refl, sym, ap, subst, arith}
 use Rattle.std.proofs.lemmas.Bool.Decides.{nat_tests}
 use Rattle.std.proofs.lemmas.List.{append-nil, length-append, length-map}
-use Rattle.std.proofs.lemmas.List.Elements.{All-cons, All-head, All-nil, All-tail}
+use Rattle.std.proofs.lemmas.List.Elements.{All-head, All-tail}
 use Rattle.ip_core.specs.Models.{IsModel, term_count}
-use Rattle.ip_core.specs.Rows.{AreRows}
 use Rattle.ip_core.specs.declared.model.ModelParts.{ModelParts}
 use Rattle.ip_core.specs.declared.row.Row.{Row}
 use Rattle.cut_derive.specs.Derivations.{derived_row}
@@ -17,10 +16,9 @@ use Rattle.cut_derive.proofs.Following.{derived_over_more}
 use Rattle.cut_separate.proofs.Separating.{new_cuts_are_derived, separated_are_new}
 use Rattle.node_pool.specs.Views.{with_row}
 use Rattle.work_stamp.specs.Taskers.{HaveWords}
-use Rattle.work_stamp.specs.Writable.{HasWords}
 use Rattle.work_stamp.specs.declared.entry.Entry.{Entry}
 use Rattle.work_stamp.specs.declared.entry.Entry.TheVariants.{Cut}
-use Rattle.task_steps.specs.Claims.{Claim, IsAt, IsReady, claim_after}
+use Rattle.task_steps.specs.Claims.{Claim, IsReady, claim_after}
 use Rattle.task_steps.specs.CutTasks.{cut_chunk, cut_task, cuts_after, end_of_cuts, entries_of_cuts, new_cuts}
 use Rattle.task_steps.specs.Fits.{AreFewDerived, FitsLocal, FitsTask}
 use Rattle.task_steps.specs.Rules.{after_cut_chunk}

@@ -1,5 +1,5 @@
 -- A derivation that gives a row has words.
-use Rattle.std.proofs.Common.{◌≡◌, ℕ, ◌<◌, ◌≤◌, ◌^◌, Bool, true, cond, ◌&&◌, nat_le, nat_lt, List, [], ◌∷◌, length, All, Ok, Err, arith}
+use Rattle.std.proofs.Common.{◌≡◌, ℕ, ◌<◌, ◌≤◌, ◌^◌, true, cond, nat_le, nat_lt, List, [], ◌∷◌, length, All, Ok, Err, arith}
 use Rattle.std.specs.List.{list_all}
 use Rattle.std.proofs.lemmas.Bool.{and_parts, leb-true}
 use Rattle.std.proofs.lemmas.Bool.Decides.{nat_tests}
@@ -26,7 +26,7 @@ use Rattle.cut_derive.specs.declared.refusal.Refusal.TheVariants.{BadNumbers, Un
 use Rattle.cut_derive.proofs.Covering.{IsChosen, all_chosen}
 use Rattle.cut_derive.proofs.Named.{named_terms}
 use Rattle.cut_derive.proofs.Shapes.{given_cover, if_ok}
-use Rattle.work_stamp.specs.Writable.{AreColumns, AreParts, HasNumber, HasWords, IsNumber, IsPair}
+use Rattle.work_stamp.specs.Writable.{HasNumber, HasWords, IsNumber, IsPair}
 use Rattle.work_stamp.specs.declared.entry.Entry.TheVariants.{Cut}
 
 below_number : (i n : ℕ) → nat_lt i n ≡ true → n ≤ 4096 → i < 2 ^ 32

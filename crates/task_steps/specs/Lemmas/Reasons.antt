@@ -4,7 +4,7 @@ use Rattle.std.proofs.lemmas.Int.{ints}
 use Rattle.ip_core.specs.Boxes.{IsWithin}
 use Rattle.ip_core.specs.Models.{IsModel}
 use Rattle.ip_core.specs.Numbers.{int_at}
-use Rattle.ip_core.specs.Rows.{AreMet, AreRows}
+use Rattle.ip_core.specs.Rows.{AreRows}
 use Rattle.ip_core.specs.Sides.{Sides, HasNoEmpty}
 use Rattle.ip_core.specs.declared.leaf.Closing.{Closing}
 use Rattle.ip_core.specs.declared.leaf.Closing.TheVariants.{Bound}

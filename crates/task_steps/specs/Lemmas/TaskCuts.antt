@@ -1,5 +1,5 @@
 -- What holds of the cuts that a task works with.
-use Rattle.std.proofs.Common.{◌≡◌, ◌∙◌, ℕ, ◌+◌, ◌*◌, ◌^◌, ◌≤◌, List, [], ◌∷◌, length, All, arith}
+use Rattle.std.proofs.Common.{◌*◌, ◌^◌, ◌≤◌, List, [], ◌∷◌, length, All, arith}
 use Rattle.std.proofs.lemmas.List.Elements.{All-head, All-tail}
 use Rattle.std.proofs.lemmas.List.Sums.{sum_by-cons}
 use Rattle.ip_core.specs.Models.{IsModel, term_count}
@@ -8,7 +8,7 @@ use Rattle.ip_core.specs.declared.model.ModelParts.{ModelParts}
 use Rattle.ip_core.specs.declared.row.Row.{Row}
 use Rattle.safe_bound.specs.Premises.{AreCuts}
 use Rattle.leaf_truth.specs.Laws.{AreValidCuts}
-use Rattle.cut_derive.specs.Laws.{AreCutRows, IsCut, NoCuts}
+use Rattle.cut_derive.specs.Laws.{IsCut, NoCuts}
 use Rattle.cut_derive.proofs.Following.{derived_are_cut_rows, derived_are_valid}
 use Rattle.task_steps.specs.Fits.{AreFewDerived}
 

@@ -1,4 +1,3 @@
-use Rattle.std.proofs.Common.{arith}
 use Rattle.ip_core.proofs.RisingColumns.{rows_short}
 use Rattle.task_steps.specs.Lemmas.TaskCuts.{cut_rows}
 use Rattle.task_steps.proofs.cut_chunk.cutting_chunk.Goals as goal
