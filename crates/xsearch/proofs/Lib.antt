@@ -1,3 +1,5 @@
+pub mod AcceptedChecks
+pub mod AcceptedFiles
 pub mod Examples
 pub mod Running
 pub mod TrueAnswers

@@ -29,7 +29,7 @@ use Rattle.xsearch.specs.declared.output.Failure.TheVariants.{Words, Memory}
 use Rattle.xsearch.specs.declared.status.ExitStatus.TheVariants.{Done}
 
 -- An answer of a model, and what solving the model finds: that of the machine's search. The rest is
--- said of it whatever found it: it is true, and the checker accepts its certificate.
+-- said of it whatever found it: it is true, and its certificate has a text and is accepted.
 pub record IsAnswer (m : ModelParts) (asked : SolveJob) (answer : Answer)
     (output : Output) : Type 0 where
   pub machine : answer ≡ machine_answer m asked.tune

@@ -1,3 +1,4 @@
+pub mod AcceptedFiles
 pub mod Answer
 pub mod Causes
 pub mod CertificateFiles

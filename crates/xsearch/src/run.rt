@@ -1,5 +1,6 @@
 ghost use Rattle.std.specs.Prelude.{map};
 ghost use Rattle.std.specs.String.{string_bytes};
+ghost use Rattle.xsearch.specs.AcceptedFiles.{IsAcceptedIfAsked, IsAcceptedIfSolved};
 ghost use Rattle.xsearch.specs.Causes.{IsCaused, IsCausedBy};
 ghost use Rattle.xsearch.specs.Runs.{Ends};
 ghost use Rattle.xsearch_words.specs.Jobs.{IsJob};
@@ -32,10 +33,13 @@ use xsearch_words::{Job, JobError, Shelf, Sink, settings};
 ///
 /// A text goes out by one put, after all files are written. After 6 and 8 nothing has gone out and
 /// some first files are written; after 7 all are, and a front of the text has gone out. No other
-/// file is changed.
+/// file is changed. After 0 the file of `--cert=NAME` is read as a certificate that the checker
+/// accepts for the admitted model.
 pub fn run<S: Shelf, O: Sink>(alloc: Global, words: &[String], shelf: &mut S, out: &mut O) -> u8
-    ensures { Ends (IsCaused (map string_bytes words.now) (S.state shelf.old) (S.state shelf.new))
+    ensures cause { Ends (IsCaused (map string_bytes words.now) (S.state shelf.old) (S.state shelf.new))
         (O.state out.old) (O.state out.new) result }
+    ensures accepted { IsAcceptedIfAsked (map string_bytes words.now) (S.state shelf.old)
+        (S.state shelf.new) result }
 {
     match settings(alloc, words) {
         Ok(job) => run_job(alloc, &job, shelf, out),
@@ -46,8 +50,9 @@ pub fn run<S: Shelf, O: Sink>(alloc: Global, words: &[String], shelf: &mut S, ou
 
 fn run_job<S: Shelf, O: Sink>(alloc: Global, job: &Job, shelf: &mut S, out: &mut O) -> u8
     requires { IsJob job.now }
-    ensures { Ends (IsCausedBy job.now (S.state shelf.old) (S.state shelf.new))
+    ensures cause { Ends (IsCausedBy job.now (S.state shelf.old) (S.state shelf.new))
         (O.state out.old) (O.state out.new) result }
+    ensures accepted { IsAcceptedIfSolved job.now (S.state shelf.old) (S.state shelf.new) result }
 {
     match job {
         Job::Solve(job) => solve_alone(alloc, job, shelf, out),
