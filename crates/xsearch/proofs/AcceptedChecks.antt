@@ -4,9 +4,8 @@ use Rattle.std.proofs.lemmas.Option.{none-some}
 use Rattle.cert_check.specs.Verdicts.{fault_of, verdict_of}
 use Rattle.cert_check.specs.Nodes.{Fault}
 use Rattle.cert_text.specs.Certificates.{certificate_text}
-use Rattle.cert_text.specs.Readings.{reading}
+use Rattle.cert_text.specs.Readings.{IsRefused, Reads}
 use Rattle.cert_text.specs.declared.error.CertKind.{CertKind}
-use Rattle.cert_text.specs.declared.reader.Reading.TheVariants as certificates
 use Rattle.cert_text.proofs.RoundTrips.{print_gives}
 use Rattle.ip_core.specs.declared.model.ModelParts.{ModelParts}
 use Rattle.mps_model.specs.declared.model.MpsModel.{MpsModel}
@@ -33,9 +32,10 @@ model_is_not_refused : (a : MpsModel) (line : ℕ) (kind : MpsKind)
     → ModelRead a ≡ ModelRefusedAt line kind → ⊥
 model_is_not_refused a line kind same = cc
 
-certificate_is_not_refused : (a : Certificate) (line : ℕ) (kind : CertKind)
-    → certificates.Read a ≡ certificates.RefusedAt line kind → ⊥
-certificate_is_not_refused a line kind same = cc
+certificate_is_not_refused : (bytes : List ℕ) (a : Certificate) (line : ℕ) (kind : CertKind)
+    → Reads bytes a → IsRefused bytes line kind → ⊥
+certificate_is_not_refused bytes a line kind reads refused =
+    let same = sym reads.is ∙ refused.is in cc
 
 -- what is told where the first fault is this
 abbrev answered : Option Fault → Result Output Failure
@@ -102,8 +102,8 @@ module _ (asked : CheckJob) (files : Files) (has : AreAcceptedFiles asked files)
   certificate_failure old new (Model reason) ended told is cause = absurd cause
   certificate_failure old new (Cert line kind) ended told is cause =
       let same = contents_of old asked.cert cause.bytes told cause.file.told in
-      absurd (certificate_is_not_refused has.certificate line kind
-      (sym has.reads.is ∙ ap reading (sym same) ∙ cause.refused.is))
+      absurd (certificate_is_not_refused (contents files asked.cert) has.certificate line kind
+      has.reads (subst (λ (bytes : List ℕ). IsRefused bytes line kind) same cause.refused))
   certificate_failure old new ReadFailed ended told is cause = Unread is
   certificate_failure old new (WriteFailed place) ended told is cause = absurd cause
   certificate_failure old new Memory ended told is cause = NoMemory is
