@@ -2,7 +2,7 @@
 use Rattle.std.proofs.Common.{ℕ, ◌≡◌, true, false, List, [], ◌∷◌, Option, Some, None, codes, refl}
 use Rattle.xsearch_words.specs.Jobs.{job}
 use Rattle.xsearch_words.specs.declared.job.Job.{Job}
-use Rattle.xsearch_words.specs.declared.job.Job.TheVariants.{Solve, Alone, Check, Show, Gen}
+use Rattle.xsearch_words.specs.declared.job.Job.TheVariants.{Solve, Alone, Check, Show, Gen, Sample}
 use Rattle.xsearch_words.specs.declared.job.SolveJob.{SolveJob}
 
 abbrev search : List ℕ → ℕ → ℕ → ℕ → Option ℕ → SolveJob
@@ -10,7 +10,7 @@ search model tasks work store default_upper = record {
   model = model;
   cert = None;
   log = None;
-  tune = record { tasks = tasks; work = work; store = store; cuts = true; heuristics = false };
+  tune = record { tasks = tasks; work = work; store = store; cuts = true; heuristics = true };
   default_upper = default_upper;
 }
 
@@ -22,6 +22,9 @@ with_cert name asked = record asked { cert = Some name }
 
 abbrev without_cuts : SolveJob → SolveJob
 without_cuts asked = record asked { tune = record (asked.tune) { cuts = false } }
+
+abbrev without_dives : SolveJob → SolveJob
+without_dives asked = record asked { tune = record (asked.tune) { heuristics = false } }
 
 abbrev solve : List ℕ → ℕ → Option ℕ → Option Job
 solve model work default_upper = Some (Solve (search model 4 work 1048576 default_upper))
@@ -122,6 +125,12 @@ cuts_without_being_told = refl
 no_cuts : job (codes "alone" ∷ codes "--cuts=no" ∷ codes "m3" ∷ []) ≡ Some (Alone (without_cuts (search (codes "m3") 4 200000000 1048576 None)))
 no_cuts = refl
 
+dives_without_being_told : job (codes "solve" ∷ codes "m3" ∷ codes "--heuristics=yes" ∷ []) ≡ job (codes "solve" ∷ codes "m3" ∷ [])
+dives_without_being_told = refl
+
+no_dives : job (codes "alone" ∷ codes "--heuristics=no" ∷ codes "m3" ∷ []) ≡ Some (Alone (without_dives (search (codes "m3") 4 200000000 1048576 None)))
+no_dives = refl
+
 no_switch : job (codes "solve" ∷ codes "m3" ∷ codes "--cuts=No" ∷ []) ≡ None
 no_switch = refl
 
@@ -196,3 +205,12 @@ many_digits = refl
 
 no_digit : job (codes "gen" ∷ codes "1x" ∷ []) ≡ None
 no_digit = refl
+
+sample : job (codes "sample" ∷ codes "01" ∷ codes "--work=7" ∷ []) ≡ Some (Sample (record { number = 1; tune = record { tasks = 4; work = 7; store = 1048576; cuts = true; heuristics = true } }))
+sample = refl
+
+sample_without_a_number : job (codes "sample" ∷ codes "m3" ∷ []) ≡ None
+sample_without_a_number = refl
+
+log_of_a_sample : job (codes "sample" ∷ codes "1" ∷ codes "--log=l" ∷ []) ≡ None
+log_of_a_sample = refl

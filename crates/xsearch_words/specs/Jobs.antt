@@ -11,12 +11,13 @@ use Rattle.xsearch_words.specs.declared.command.Key.TheVariants.{DefaultUpper, C
 use Rattle.xsearch_words.specs.declared.error.JobError.{JobError}
 use Rattle.xsearch_words.specs.declared.error.JobError.TheVariants.{Words}
 use Rattle.xsearch_words.specs.declared.job.Job.{Job}
-use Rattle.xsearch_words.specs.declared.job.Job.TheVariants.{Solve, Alone, Check, Show, Gen}
+use Rattle.xsearch_words.specs.declared.job.Job.TheVariants.{Solve, Alone, Check, Show, Gen, Sample}
 use Rattle.xsearch_words.specs.declared.job.SolveJob.{SolveJob}
 use Rattle.xsearch_words.specs.declared.job.CheckJob.{CheckJob}
+use Rattle.xsearch_words.specs.declared.job.SampleJob.{SampleJob}
 
--- `MODEL [--tasks=N] [--work=N] [--store=N] [--cuts=yes|no] [--default-upper=N] [--cert=NAME]
--- [--log=NAME]` after `solve` or `alone`, with names that differ
+-- `MODEL [--tasks=N] [--work=N] [--store=N] [--cuts=yes|no] [--heuristics=yes|no]
+-- [--default-upper=N] [--cert=NAME] [--log=NAME]` after `solve` or `alone`, with names that differ
 abbrev pub solve_job : List (List ℕ) → Option SolveJob
 solve_job words =
     when_some (name_at 0 words) (λ model.
@@ -41,9 +42,16 @@ check_job words =
     when_some (optional_number 0 (2 ^ 31) (value DefaultUpper words)) (λ default_upper.
     Some (record { model = model; cert = cert; default_upper = default_upper }))))
 
--- `gen NUMBER`
-abbrev pub gen_number : List (List ℕ) → Option ℕ
-gen_number words = when_some (name_at 0 words) (number_between 0 (2 ^ 64 - 1))
+-- `NUMBER` after `gen` or `sample`
+abbrev pub model_number : List (List ℕ) → Option ℕ
+model_number words = when_some (name_at 0 words) (number_between 0 (2 ^ 64 - 1))
+
+-- `NUMBER [--tasks=N] [--work=N] [--store=N] [--cuts=yes|no] [--heuristics=yes|no]` after `sample`
+abbrev pub sample_job : List (List ℕ) → Option SampleJob
+sample_job words =
+    when_some (model_number words) (λ number.
+    when_some (tune_in words) (λ tune.
+    Some (record { number = number; tune = tune })))
 
 -- what words of the command's form ask
 abbrev pub command_job : Command → List (List ℕ) → Option Job
@@ -51,7 +59,8 @@ command_job command.Solve words = option_map Solve (solve_job words)
 command_job command.Alone words = option_map Alone (solve_job words)
 command_job command.Check words = option_map Check (check_job words)
 command_job command.Show words = option_map Show (name_at 0 words)
-command_job command.Gen words = option_map Gen (gen_number words)
+command_job command.Gen words = option_map Gen (model_number words)
+command_job command.Sample words = option_map Sample (sample_job words)
 
 -- what the words ask: the first is the command, and the others have its form
 abbrev pub job : List (List ℕ) → Option Job
@@ -89,3 +98,4 @@ IsJob (Alone asked) = IsSolveJob asked
 IsJob (Check asked) = IsCheckJob asked
 IsJob (Show model) = IsTrue (is_name model)
 IsJob (Gen number) = ⊤
+IsJob (Sample asked) = IsTune asked.tune

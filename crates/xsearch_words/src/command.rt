@@ -9,6 +9,7 @@ pub(crate) enum Command {
     Check,
     Show,
     Gen,
+    Sample,
 }
 
 /// A key of the options.
@@ -18,6 +19,7 @@ pub(crate) enum Key {
     Work,
     Store,
     Cuts,
+    Heuristics,
     DefaultUpper,
     Cert,
     Log,
@@ -38,6 +40,8 @@ impl Command {
             Some(Command::Show)
         } else if word == b"gen".as_slice() {
             Some(Command::Gen)
+        } else if word == b"sample".as_slice() {
+            Some(Command::Sample)
         } else {
             None
         }
@@ -49,7 +53,8 @@ impl Command {
     {
         match self {
             Command::Check => 2,
-            Command::Solve | Command::Alone | Command::Show | Command::Gen => 1,
+            Command::Solve | Command::Alone | Command::Show => 1,
+            Command::Gen | Command::Sample => 1,
         }
     }
 
@@ -63,12 +68,20 @@ impl Command {
                 Key::Work,
                 Key::Store,
                 Key::Cuts,
+                Key::Heuristics,
                 Key::DefaultUpper,
                 Key::Cert,
                 Key::Log,
             ],
             Command::Check => &[Key::DefaultUpper],
             Command::Show | Command::Gen => &[],
+            Command::Sample => &[
+                Key::Tasks,
+                Key::Work,
+                Key::Store,
+                Key::Cuts,
+                Key::Heuristics,
+            ],
         }
     }
 }
@@ -83,6 +96,7 @@ impl Key {
             Key::Work => b"--work=",
             Key::Store => b"--store=",
             Key::Cuts => b"--cuts=",
+            Key::Heuristics => b"--heuristics=",
             Key::DefaultUpper => b"--default-upper=",
             Key::Cert => b"--cert=",
             Key::Log => b"--log=",

@@ -1,7 +1,8 @@
 ghost use Rattle.std.specs.Prelude.{◌≡◌, ◌≤◌, ◌^◌, map, IfOk, IfSome, IsTrue, MatchResult};
 ghost use Rattle.std.specs.Option.{option_copied};
 ghost use Rattle.std.specs.String.{string_bytes};
-ghost use Rattle.xsearch_words.specs.Jobs.{IsCheckJob, IsJob, IsJobCause, IsJobOf, IsSolveJob, check_job as check_job_of, command_job as command_job_of, gen_number as gen_number_of, solve_job as solve_job_of};
+ghost use Rattle.xsearch_words.specs.Jobs.{IsCheckJob, IsJob, IsJobCause, IsJobOf, IsSolveJob, check_job as check_job_of, command_job as command_job_of, model_number as model_number_of, sample_job as sample_job_of, solve_job as solve_job_of};
+ghost use Rattle.xsearch_words.specs.Tunes.{IsTune};
 ghost use Rattle.xsearch_words.specs.Forms.{IsOtherName, is_name, name_at as name_at_of, names_differ as names_differ_of, other_name as other_name_of, value as value_of};
 
 use crate::command::{Command, Key};
@@ -28,6 +29,8 @@ pub enum Job {
     Show(Text),
     /// To generate the model of this number.
     Gen(u64),
+    /// To search the generated model of a number.
+    Sample(SampleJob),
 }
 
 /// What `solve` or `alone` is asked.
@@ -53,22 +56,32 @@ pub struct CheckJob {
     pub default_upper: Option<u32>,
 }
 
+/// What `sample` is asked.
+#[derive(Clone, Copy, Debug)]
+pub struct SampleJob {
+    /// The number of the generated model.
+    pub number: u64,
+    /// How the search is run.
+    pub tune: Tune,
+}
+
 /// What the words of the command line ask, without the program's name.
 ///
 /// The first word is the command, which is one of `solve MODEL` and `alone MODEL`, both with the
-/// options `--tasks=N`, `--work=N`, `--store=N`, `--cuts=yes|no`, `--default-upper=N`, `--cert=NAME`
-/// and `--log=NAME`, `check MODEL CERT` with the option `--default-upper=N`, `show MODEL` and
-/// `gen NUMBER`. Each further word is `--key=value` with a key of the command, at most once each, or
-/// a name: a word that isn't empty and doesn't begin with `-`. There are exactly as many names as the
-/// command has, and options may stand before, between and after them.
+/// options `--tasks=N`, `--work=N`, `--store=N`, `--cuts=yes|no`, `--heuristics=yes|no`,
+/// `--default-upper=N`, `--cert=NAME` and `--log=NAME`, `check MODEL CERT` with the option
+/// `--default-upper=N`, `show MODEL`, `gen NUMBER`, and `sample NUMBER` with the first five of the
+/// options of `solve`. Each further word is `--key=value` with a key of the command, at most once
+/// each, or a name: a word that isn't empty and doesn't begin with `-`. There are exactly as many
+/// names as the command has, and options may stand before, between and after them.
 ///
 /// A number is 1 to 20 decimal digits within its range: N of `--tasks` is 1 to 64, and 4 without
 /// it; N of `--work` is at most 10^12, and 200,000,000 without it; N of `--store`, in words for
 /// each task, is 64 to 2^22, and without it 2^22 divided by the number of tasks and rounded down;
 /// tasks times store is at most 2^22; N of `--default-upper` is at most 2^31; NUMBER is at most
-/// 2^64 - 1. Without `--cuts` it is yes. The NAMEs of `--cert` and `--log` are names that differ from MODEL and from each other,
-/// byte for byte. `Words` is answered exactly where the words ask nothing by these rules, unless
-/// memory runs out.
+/// 2^64 - 1. Without `--cuts` or `--heuristics` it is yes. The NAMEs of `--cert` and `--log` are
+/// names that differ from MODEL and from each other, byte for byte. `Words` is answered exactly
+/// where the words ask nothing by these rules, unless memory runs out.
 pub fn settings(alloc: Global, words: &[String]) -> Result<Job, JobError>
     ensures answer { MatchResult result (IsJobOf (map string_bytes words.now))
         (IsJobCause (map string_bytes words.now)) }
@@ -103,7 +116,8 @@ fn command_job(
         Command::Alone => solve_job(alloc, words)?.map(Job::Alone),
         Command::Check => check_job(alloc, words)?.map(Job::Check),
         Command::Show => file_name(alloc, 0, words)?.map(Job::Show),
-        Command::Gen => gen_number(words).map(Job::Gen),
+        Command::Gen => model_number(words).map(Job::Gen),
+        Command::Sample => sample_job(words).map(Job::Sample),
     })
 }
 
@@ -201,8 +215,17 @@ fn names_differ(first: &Option<Text>, second: &Option<Text>) -> bool
     first.as_slice() != second.as_slice()
 }
 
-fn gen_number(words: &[String]) -> Option<u64>
-    ensures { result ≡ gen_number_of (map string_bytes words.now) }
+fn sample_job(words: &[String]) -> Option<SampleJob>
+    ensures value { result ≡ sample_job_of (map string_bytes words.now) }
+    ensures kept { IfSome result (λ job. IsTune job.tune) }
+{
+    let number = model_number(words)?;
+    let tune = tune_in(words)?;
+    Some(SampleJob { number, tune })
+}
+
+fn model_number(words: &[String]) -> Option<u64>
+    ensures { result ≡ model_number_of (map string_bytes words.now) }
 {
     number_between(name_at(0, words)?, 0, u64::MAX)
 }

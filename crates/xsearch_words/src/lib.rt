@@ -29,7 +29,7 @@ mod tune;
 pub use error::{JobError, OutputError, ShelfError, WriteError};
 pub use fault::LastFault;
 pub use file_shelf::FileShelf;
-pub use job::{CheckJob, Job, SolveJob, settings};
+pub use job::{CheckJob, Job, SampleJob, SolveJob, settings};
 pub use memory_shelf::MemoryShelf;
 pub use memory_sink::MemorySink;
 pub use output::{OutputFile, write_all};

@@ -379,6 +379,7 @@ enum Want {
     Check(&'static str, &'static str, Option<u32>),
     Show(&'static str),
     Gen(u64),
+    Sample(u64, Tune),
 }
 
 type Case = (&'static [&'static str], Want);
@@ -388,7 +389,7 @@ const PLAIN: Tune = Tune {
     work: 200_000_000,
     store: 1_048_576,
     cuts: true,
-    heuristics: false,
+    heuristics: true,
 };
 
 const LITTLE_WORK: Tune = Tune {
@@ -396,7 +397,7 @@ const LITTLE_WORK: Tune = Tune {
     work: 7,
     store: 1_048_576,
     cuts: true,
-    heuristics: false,
+    heuristics: true,
 };
 
 const MOST_WORK: Tune = Tune {
@@ -404,7 +405,7 @@ const MOST_WORK: Tune = Tune {
     work: 1_000_000_000_000,
     store: 1_048_576,
     cuts: true,
-    heuristics: false,
+    heuristics: true,
 };
 
 const THREE_TASKS: Tune = Tune {
@@ -412,7 +413,7 @@ const THREE_TASKS: Tune = Tune {
     work: 200_000_000,
     store: 1_398_101,
     cuts: true,
-    heuristics: false,
+    heuristics: true,
 };
 
 const ONE_TASK: Tune = Tune {
@@ -420,7 +421,7 @@ const ONE_TASK: Tune = Tune {
     work: 200_000_000,
     store: 4_194_304,
     cuts: true,
-    heuristics: false,
+    heuristics: true,
 };
 
 const MOST_TASKS: Tune = Tune {
@@ -428,7 +429,7 @@ const MOST_TASKS: Tune = Tune {
     work: 200_000_000,
     store: 65_536,
     cuts: true,
-    heuristics: false,
+    heuristics: true,
 };
 
 const LEAST_STORE: Tune = Tune {
@@ -436,7 +437,7 @@ const LEAST_STORE: Tune = Tune {
     work: 0,
     store: 64,
     cuts: true,
-    heuristics: false,
+    heuristics: true,
 };
 
 const WITHOUT_CUTS: Tune = Tune {
@@ -444,10 +445,18 @@ const WITHOUT_CUTS: Tune = Tune {
     work: 200_000_000,
     store: 4_194_304,
     cuts: false,
+    heuristics: true,
+};
+
+const WITHOUT_DIVES: Tune = Tune {
+    tasks: 1,
+    work: 200_000_000,
+    store: 4_194_304,
+    cuts: true,
     heuristics: false,
 };
 
-const CASES: [Case; 63] = [
+const CASES: [Case; 78] = [
     (&["solve", "m3"], Want::Solve("m3", PLAIN, None)),
     (
         &["solve", "--work=007", "m3"],
@@ -492,6 +501,21 @@ const CASES: [Case; 63] = [
     (&["solve", "m3", "--cuts=no "], Want::Nothing),
     (&["solve", "m3", "--cuts=no", "--cuts=no"], Want::Nothing),
     (&["show", "m3", "--cuts=no"], Want::Nothing),
+    (
+        &["solve", "--heuristics=no", "m3", "--tasks=1"],
+        Want::Solve("m3", WITHOUT_DIVES, None),
+    ),
+    (
+        &["alone", "m3", "--heuristics=yes", "--cuts=yes"],
+        Want::Alone("m3", PLAIN, None),
+    ),
+    (&["solve", "m3", "--heuristics"], Want::Nothing),
+    (&["solve", "m3", "--heuristics=1"], Want::Nothing),
+    (
+        &["solve", "m3", "--heuristics=no", "--heuristics=yes"],
+        Want::Nothing,
+    ),
+    (&["check", "m3", "c", "--heuristics=no"], Want::Nothing),
     (
         &["alone", "m1", "--default-upper=7"],
         Want::Alone("m1", PLAIN, Some(7)),
@@ -555,6 +579,24 @@ const CASES: [Case; 63] = [
     (&["gen", "--tasks=1", "1"], Want::Nothing),
     (&["gen", "18446744073709551616"], Want::Nothing),
     (&["gen", "000000000000000000007"], Want::Nothing),
+    (&["sample", "01"], Want::Sample(1, PLAIN)),
+    (
+        &["sample", "--cuts=no", "7", "--tasks=1"],
+        Want::Sample(7, WITHOUT_CUTS),
+    ),
+    (
+        &["sample", "7", "--tasks=1", "--heuristics=no"],
+        Want::Sample(7, WITHOUT_DIVES),
+    ),
+    (&["sample", "7", "--heuristics=maybe"], Want::Nothing),
+    (
+        &["sample", "7", "--work=0", "--store=64", "--tasks=64"],
+        Want::Sample(7, LEAST_STORE),
+    ),
+    (&["sample"], Want::Nothing),
+    (&["sample", "1", "2"], Want::Nothing),
+    (&["sample", "1", "--default-upper=9"], Want::Nothing),
+    (&["sample", "1", "--threads=1"], Want::Nothing),
 ];
 
 fn is_search(job: &SolveJob, model: &str, tune: Tune, default_upper: Option<u32>) -> bool {
@@ -606,6 +648,9 @@ fn asks(alloc: Global, case: Case) -> Result<bool, OutOfMemory> {
         }
         (Ok(Job::Show(model)), Want::Show(want)) => model.as_slice() == want.as_bytes(),
         (Ok(Job::Gen(number)), Want::Gen(want)) => number == want,
+        (Ok(Job::Sample(job)), Want::Sample(number, tune)) => {
+            job.number == number && job.tune == tune
+        }
         (Err(JobError::Words), Want::Nothing) => true,
         (Err(JobError::Memory), _) => return Err(OutOfMemory),
         _ => false,

@@ -28,7 +28,6 @@ const MAX_STORE: u64 = 4_194_304;
 /// How a search is run: the number of tasks, for each its limit on counted work and its store in
 /// words, and whether it derives cuts and whether it dives for points. There are 1 to 64 tasks, the
 /// limit is at most 10^12, and a store is 64 words or more, for all tasks together at most 2^22.
-/// There are no heuristics yet.
 #[derive(Clone, Copy, Debug, PartialEq, Eq)]
 pub struct Tune {
     pub tasks: u32,
@@ -39,15 +38,15 @@ pub struct Tune {
 }
 
 impl Tune {
-    /// So many tasks with this work and store for each, with cuts or without, or None where their
-    /// stores together are above the greatest store.
-    fn of(tasks: u64, work: u64, store: u64, cuts: bool) -> Option<Tune>
+    /// So many tasks with this work and store for each, with cuts and dives or without, or None where
+    /// their stores together are above the greatest store.
+    fn of(tasks: u64, work: u64, store: u64, cuts: bool, heuristics: bool) -> Option<Tune>
         requires some { 1 ≤ tasks }
         requires few { tasks ≤ 64 }
         requires work { work ≤ 10 ^ 12 }
         requires some_store { 64 ≤ store }
         requires small_store { store ≤ 2 ^ 22 }
-        ensures value { result ≡ tune_of tasks work store cuts }
+        ensures value { result ≡ tune_of tasks work store cuts heuristics }
         ensures kept { IfSome result IsTune }
     {
         if tasks * store > MAX_STORE {
@@ -58,7 +57,7 @@ impl Tune {
             work,
             store: store as u32,
             cuts,
-            heuristics: false,
+            heuristics,
         })
     }
 }
@@ -73,7 +72,8 @@ pub(crate) fn tune_in(words: &[String]) -> Option<Tune>
     let without = default_store(tasks);
     let store = number_or(without, MIN_STORE, MAX_STORE, value(Key::Store, words))?;
     let cuts = switch_or(true, value(Key::Cuts, words))?;
-    Tune::of(tasks, work, store, cuts)
+    let heuristics = switch_or(true, value(Key::Heuristics, words))?;
+    Tune::of(tasks, work, store, cuts, heuristics)
 }
 
 /// The store of each task where the words give none, in words: the whole store in equal parts,
