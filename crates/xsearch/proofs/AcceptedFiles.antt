@@ -19,7 +19,7 @@ use Rattle.xsearch_words.specs.Outputs.{AreWritten, with_files, with_told_files}
 use Rattle.xsearch_words.specs.Shelf.{ShelfState}
 use Rattle.xsearch_words.specs.Sink.{SinkState}
 use Rattle.xsearch_words.specs.declared.job.Job.{Job}
-use Rattle.xsearch_words.specs.declared.job.Job.TheVariants.{Solve, Alone, Check, Show, Gen}
+use Rattle.xsearch_words.specs.declared.job.Job.TheVariants.{Solve, Alone, Check, Show, Gen, Sample}
 use Rattle.xsearch_words.specs.declared.job.SolveJob.{SolveJob}
 use Rattle.xsearch_words.specs.declared.output.OutputFile.{OutputFile}
 use Rattle.xsearch.specs.AcceptedFiles.{IsAcceptedFile, IsAcceptedIfAsked, IsAcceptedIfNamed, IsAcceptedIfSolved}
@@ -138,8 +138,8 @@ module _ (asked : SolveJob) (name : List ℕ) (named : asked.cert ≡ Some name)
             files))
             (told_cases asked.log name bytes c between.files
             (subst (λ (o : Option (List ℕ)). IsTrue (names_differ o asked.log)) named apart)
-            (of_model.proof.text c made));
-        accepted = (of_model.proof.each c made).accepted;
+            (of_model.searched.proof.text c made));
+        accepted = (of_model.searched.proof.each c made).accepted;
       }
 
   solved_accepted : (mps : MpsModel) (found : Result Output Failure)
@@ -259,6 +259,7 @@ failed_cases (Alone asked) old new code failed =
 failed_cases (Check asked) old new code failed = tt
 failed_cases (Show model) old new code failed = tt
 failed_cases (Gen number) old new code failed = tt
+failed_cases (Sample asked) old new code failed = tt
 
 failure_code : (failure : Failure) (ended : Result Output Failure) (before after : SinkState)
     (status : ExitStatus) → ended ≡ Err failure → EndsAs ended before after status

@@ -13,7 +13,7 @@ use Rattle.xsearch_words.specs.Jobs.{job}
 use Rattle.xsearch_words.specs.Shelf.{ShelfState}
 use Rattle.xsearch_words.specs.declared.job.CheckJob.{CheckJob}
 use Rattle.xsearch_words.specs.declared.job.Job.{Job}
-use Rattle.xsearch_words.specs.declared.job.Job.TheVariants.{Solve, Alone, Check, Show, Gen}
+use Rattle.xsearch_words.specs.declared.job.Job.TheVariants.{Solve, Alone, Check, Show, Gen, Sample}
 use Rattle.xsearch_words.specs.declared.job.SolveJob.{SolveJob}
 use Rattle.xsearch.specs.Checks.{IsCheckedFile, told}
 use Rattle.xsearch.specs.ModelFiles.{IsModelFile}
@@ -44,6 +44,7 @@ IsAcceptedIfSolved (Alone asked) old new code = IsAcceptedIfNamed asked old new 
 IsAcceptedIfSolved (Check asked) old new code = ⊤
 IsAcceptedIfSolved (Show model) old new code = ⊤
 IsAcceptedIfSolved (Gen number) old new code = ⊤
+IsAcceptedIfSolved (Sample asked) old new code = ⊤
 
 -- the same of the job that words ask for
 pub record IsAcceptedIfAsked (words : List (List ℕ)) (old new : ShelfState) (code : ℕ) : Type 0

@@ -11,9 +11,12 @@ abbrev pub objective_of : ModelParts → ℤ → ℤ
 objective_of m value = if m.maximise then neg_ℤ (value +ℤ m.constant) else (value +ℤ m.constant)
 
 -- it is printed with the decimals of the model
+abbrev pub objective_text : ModelParts → ℤ → List ℕ
+objective_text m value = decimal_text (objective_of m value) m.decimals
+
+-- its line
 abbrev pub objective_line : ModelParts → ℤ → List ℕ
-objective_line m value = codes "objective " ++ decimal_text
-    (objective_of m value) m.decimals ++ codes "\n"
+objective_line m value = codes "objective " ++ objective_text m value ++ codes "\n"
 
 -- the line of a column: its name, ` = ` and its value
 abbrev pub column_line : List ℕ → ℤ → List ℕ

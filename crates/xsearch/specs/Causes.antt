@@ -3,42 +3,35 @@ use Rattle.std.specs.Prelude.{ℕ, ◌≡◌, List, [], Option, Some, None, Resu
 use Rattle.ip_core.specs.declared.model.ModelParts.{ModelParts}
 use Rattle.mps_model.specs.Prints.{canonical_text}
 use Rattle.mps_model.specs.declared.model.MpsModel.{MpsModel}
-use Rattle.task_steps.specs.LimitCauses.{IsLimitCause}
-use Rattle.task_steps.specs.Truth.{IsTrueAnswer}
 use Rattle.task_steps.specs.declared.answer.Answer.{Answer}
-use Rattle.tree_build.specs.Certificates.{proof_of}
-use Rattle.tree_build.specs.Laws.{IsProofIfMade}
 use Rattle.width_admit.specs.Admission.{Admits}
 use Rattle.sample_model.specs.Samples.{generated_model}
 use Rattle.xsearch_words.specs.Jobs.{job}
 use Rattle.xsearch_words.specs.Shelf.{ShelfState}
 use Rattle.xsearch_words.specs.declared.job.Job.{Job}
-use Rattle.xsearch_words.specs.declared.job.Job.TheVariants.{Solve, Alone, Check, Show, Gen}
+use Rattle.xsearch_words.specs.declared.job.Job.TheVariants.{Solve, Alone, Check, Show, Gen, Sample}
 use Rattle.xsearch_words.specs.declared.job.SolveJob.{SolveJob}
 use Rattle.xsearch.specs.Answer.{answer_text}
 use Rattle.xsearch.specs.Checks.{IsCheckedFile}
 use Rattle.xsearch.specs.Endings.{exit_of}
-use Rattle.xsearch.specs.FileJobs.{IsFileJob}
+use Rattle.xsearch.specs.FileJobs.{IsFileJob, IsJobWithoutFiles}
 use Rattle.xsearch.specs.FileAnswers.{IsTrueOfFile}
 use Rattle.xsearch.specs.ModelFiles.{IsModelFailure, IsModelFile, IsRefusal}
-use Rattle.xsearch.specs.Searches.{limits_of, machine_answer, machine_history, settings_of}
+use Rattle.xsearch.specs.SampleAnswers.{IsSampled}
+use Rattle.xsearch.specs.Searches.{IsSearchAnswer, machine_history}
 use Rattle.xsearch.specs.Writes.{IsWritten, solve_files}
 use Rattle.xsearch.specs.declared.output.Output.{Output}
 use Rattle.xsearch.specs.declared.output.Failure.{Failure}
 use Rattle.xsearch.specs.declared.output.Failure.TheVariants.{Words, Memory}
 use Rattle.xsearch.specs.declared.status.ExitStatus.TheVariants.{Done}
 
--- An answer of a model, and what solving the model finds: that of the machine's search. The rest is
--- said of it whatever found it: it is true, and its certificate has a text and is accepted.
+-- an answer of a model's search, and what solving the model finds
 pub record IsAnswer (m : ModelParts) (asked : SolveJob) (answer : Answer)
     (output : Output) : Type 0 where
-  pub machine : answer ≡ machine_answer m asked.tune
+  pub searched : IsSearchAnswer m asked.tune answer
   pub exit : output.exit ≡ exit_of answer.status
   pub text : output.text ≡ answer_text m answer.status answer.best
   pub files : output.files ≡ solve_files m asked (machine_history m asked.tune) answer
-  pub truth : IsTrueAnswer m answer
-  pub proof : IsProofIfMade m (proof_of m (machine_history m asked.tune) answer)
-  pub limit : IsLimitCause m (settings_of asked.tune) (limits_of asked.tune) answer.status
 
 -- the answer of the model that a file's model is admitted as, which is true of the file's own model
 pub record IsFileAnswer (asked : SolveJob) (mps : MpsModel)
@@ -75,12 +68,6 @@ pub record IsSolvedFile (asked : SolveJob) (old new : ShelfState)
   pub solved : IsFileJob IsModelFile IsModelFailure (IsSolved asked) old between asked.model found
   pub written : IsWritten found between new ended
 
--- what printing a sample model finds, without a call of the shelf
-pub record IsPrintedSample (number : ℕ) (old new : ShelfState)
-    (found : Result Output Failure) : Type 0 where
-  pub print : IsPrinted (generated_model number) found
-  pub unused : new ≡ old
-
 -- what a job comes to has its cause in the job and the shelf
 abbrev pub IsCausedBy : Job → ShelfState → ShelfState → Result Output Failure → Type 0
 IsCausedBy (Solve asked) old new ended = IsSolvedFile asked old new ended
@@ -88,7 +75,10 @@ IsCausedBy (Alone asked) old new ended = IsSolvedFile asked old new ended
 IsCausedBy (Check asked) old new ended = IsCheckedFile asked old new ended
 IsCausedBy (Show model) old new ended =
     IsFileJob IsModelFile IsModelFailure IsPrinted old new model ended
-IsCausedBy (Gen number) old new ended = IsPrintedSample number old new ended
+IsCausedBy (Gen number) old new ended =
+    IsJobWithoutFiles (IsPrinted (generated_model number)) old new ended
+IsCausedBy (Sample asked) old new ended =
+    IsJobWithoutFiles (IsSampled asked (generated_model asked.number)) old new ended
 
 -- words ask for a job, and what it comes to has its cause
 pub record IsAsked (words : List (List ℕ)) (old new : ShelfState)

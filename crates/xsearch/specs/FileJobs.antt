@@ -39,3 +39,9 @@ pub record IsFileJob {C : Type 0} (IsReadAs : ShelfState → List ℕ → C → 
   pub read : IsOneRead old new
   pub of_file : IsOfFile IsReadAs IsFailure next old new name found
   pub quiet : found ≢ Err ReadFailed → HasNoFault old new
+
+-- what was found comes of the job alone, without a call of the shelf
+pub record IsJobWithoutFiles (next : Result Output Failure → Type 0) (old new : ShelfState)
+    (found : Result Output Failure) : Type 0 where
+  pub comes : next found
+  pub unused : new ≡ old

@@ -9,6 +9,8 @@ pub mod FileJobs
 pub mod ModelFiles
 pub mod Refusals
 pub mod Runs
+pub mod SampleAnswers
 pub mod Searches
 pub mod Shelves
+pub mod Summaries
 pub mod Writes

@@ -1,8 +1,13 @@
 -- The search that words set: the machine's, with so many slots. Who asks only whether an answer is
 -- true needn't read it.
+use Rattle.std.specs.Prelude.{◌≡◌}
 use Rattle.ip_core.specs.declared.model.ModelParts.{ModelParts}
 use Rattle.node_pool.specs.declared.settings.SearchSettings.{SearchSettings}
 use Rattle.task_steps.specs.Answers.{answer_of}
+use Rattle.task_steps.specs.LimitCauses.{IsLimitCause}
+use Rattle.task_steps.specs.Truth.{IsTrueAnswer}
+use Rattle.tree_build.specs.Certificates.{proof_of}
+use Rattle.tree_build.specs.Laws.{IsProofIfMade}
 use Rattle.task_steps.specs.Rules.{rules}
 use Rattle.task_steps.specs.declared.answer.Answer.{Answer}
 use Rattle.stamp_machine.specs.Machine.{history}
@@ -25,3 +30,11 @@ machine_history m tune = history (rules m (settings_of tune)) (limits_of tune)
 -- its answer: how it ended, and the first found point of least value
 abbrev pub machine_answer : ModelParts → Tune → Answer
 machine_answer m tune = answer_of m (machine_history m tune).entries
+
+-- An answer of a model is that of the machine's search. The rest is said of it whatever found it: it
+-- is true, its certificate has a text and is accepted, and a limit that ended the search was met.
+pub record IsSearchAnswer (m : ModelParts) (tune : Tune) (answer : Answer) : Type 0 where
+  pub machine : answer ≡ machine_answer m tune
+  pub truth : IsTrueAnswer m answer
+  pub proof : IsProofIfMade m (proof_of m (machine_history m tune) answer)
+  pub limit : IsLimitCause m (settings_of tune) (limits_of tune) answer.status

@@ -1,5 +1,5 @@
 ghost use Rattle.std.specs.Prelude.{◌≡◌, ◌++◌, length, IfOk, OnOk};
-ghost use Rattle.xsearch.specs.Answer.{HasOneEach, answer_text as answer_text_of, column_line, column_lines, objective_of, objective_line as objective_line_of, point_text, status_word as status_word_of};
+ghost use Rattle.xsearch.specs.Answer.{HasOneEach, answer_text as answer_text_of, column_line, column_lines, objective_of, objective_line as objective_line_of, objective_text as objective_text_of, point_text, status_word as status_word_of};
 
 use ip_core::{Model, Name, OutOfMemory, Text, decimal};
 use itoa::Buffer;
@@ -61,17 +61,23 @@ fn append_point(
     }
 }
 
-/// The line of the objective, with the decimals of the model.
+/// The line of the objective.
 fn objective_line(alloc: Global, model: &Model, best: &Best) -> Result<Text, OutOfMemory>
     ensures { IfOk result (λ line. line ≡ objective_line_of model.now best.now.value) }
 {
-    let decimals = model.parts().decimals;
-    let number = decimal::text(alloc, objective(model, best), decimals)?;
     let mut line = Text::new(alloc);
     line.extend(b"objective ")?;
-    line.extend(number.as_slice())?;
+    line.extend(objective_text(alloc, model, best)?.as_slice())?;
     line.push(b'\n')?;
     Ok(line)
+}
+
+/// The objective of a point, with the decimals of the model.
+pub fn objective_text(alloc: Global, model: &Model, best: &Best) -> Result<Text, OutOfMemory>
+    ensures { IfOk result (λ text. text ≡ objective_text_of model.now best.now.value) }
+{
+    let decimals = model.parts().decimals;
+    decimal::text(alloc, objective(model, best), decimals)
 }
 
 /// The objective of a point: with the constant, and negated where the model maximises.

@@ -80,7 +80,7 @@ end
 /// The first chunk for cuts counts 1, thirteen rounds of 4 and 16, the second 1, thirteen rounds of
 /// 10 and 48. The node's counts 1, two passes of 4 and twelve rounds of 10.
 const LOG_WITH_CUTS: &[u8] = b"xsearch log 1
-tasks 1 work 200000000 store 4194304 cuts yes heuristics no
+tasks 1 work 200000000 store 4194304 cuts yes heuristics yes
 0 0 cutloop
 69 0 gomory 2 1 r0 1
 69 0 gomory 2048 1 r0 512
@@ -320,7 +320,7 @@ struct Written {
     log: Option<&'static [u8]>,
 }
 
-const WRITTEN: [Written; 10] = [
+const WRITTEN: [Written; 11] = [
     Written {
         words: "solve m --tasks=1 --cuts=no --cert=c",
         model: ODD,
@@ -330,8 +330,18 @@ const WRITTEN: [Written; 10] = [
         cert: Some(CERT_OF_ODD),
         log: None,
     },
+    // a dive closes no node, so that the certificate is the same without dives
     Written {
-        words: "alone m --tasks=1 --cuts=no --cert=c",
+        words: "solve m --tasks=1 --cuts=no --cert=c --log=l",
+        model: HALVES,
+        shelf_calls: &[],
+        puts: &[],
+        status: 0,
+        cert: Some(CERT_OF_HALVES),
+        log: Some(LOG_OF_HALVES),
+    },
+    Written {
+        words: "alone m --tasks=1 --cuts=no --heuristics=no --cert=c",
         model: HALVES,
         shelf_calls: &[],
         puts: &[],

@@ -20,9 +20,9 @@ struct Broken {
 }
 
 pub(crate) const LOG_WITHOUT_WORK: &[u8] =
-    b"xsearch log 1\ntasks 1 work 0 store 4194304 cuts yes heuristics no\nend 0 0\nstatus worklimit\n";
+    b"xsearch log 1\ntasks 1 work 0 store 4194304 cuts yes heuristics yes\nend 0 0\nstatus worklimit\n";
 
-const BROKEN: [Broken; 6] = [
+const BROKEN: [Broken; 7] = [
     Broken {
         words: "solve m",
         shelf_calls: &[1],
@@ -61,6 +61,16 @@ const BROKEN: [Broken; 6] = [
         output: b"",
         log: Some(b"xsearch lo"),
         fault: Some((true, b"l")),
+        faults: (1, 0),
+    },
+    Broken {
+        words: "solve m --cert=c --log=l",
+        shelf_calls: &[2],
+        puts: &[],
+        status: 6,
+        output: b"",
+        log: None,
+        fault: Some((true, b"c")),
         faults: (1, 0),
     },
     Broken {
@@ -128,13 +138,13 @@ struct Logged {
     log: &'static [u8],
 }
 
-const LOGGED: [Logged; 5] = [
+const LOGGED: [Logged; 6] = [
     Logged {
         words: "solve m --tasks=2 --log=l",
         model: ONE,
         status: 0,
         log: b"xsearch log 1
-tasks 2 work 200000000 store 2097152 cuts yes heuristics no
+tasks 2 work 200000000 store 2097152 cuts yes heuristics yes
 0 0 start 0
 14 0 found 0 0
 14 0 closed 0
@@ -155,7 +165,7 @@ status optimal
         model: ONE,
         status: 3,
         log: b"xsearch log 1
-tasks 1 work 14 store 4194304 cuts yes heuristics no
+tasks 1 work 14 store 4194304 cuts yes heuristics yes
 0 0 start 0
 end 0 14
 status worklimit
@@ -173,9 +183,12 @@ status worklimit
         status: 0,
         log: LOG_OF_HALVES,
     },
-];
-
-pub(crate) const LOG_OF_HALVES: &[u8] = b"xsearch log 1
+    // without dives the second node is taken at once
+    Logged {
+        words: "solve m --tasks=1 --cuts=no --heuristics=no --log=l",
+        model: HALVES,
+        status: 0,
+        log: b"xsearch log 1
 tasks 1 work 200000000 store 4194304 cuts no heuristics no
 0 0 start 0
 217 0 split 0 0 0 4 0 0
@@ -185,6 +198,24 @@ tasks 1 work 200000000 store 4194304 cuts no heuristics no
 240 0 closed 5
 240 0 done
 end 0 240
+status infeasible
+",
+    },
+];
+
+/// The root counts 1, a pass of 7 and eleven rounds of 19. The dive from node 5 ends at its passes.
+pub(crate) const LOG_OF_HALVES: &[u8] = b"xsearch log 1
+tasks 1 work 200000000 store 4194304 cuts no heuristics yes
+0 0 start 0
+217 0 split 0 0 0 4 0 0
+225 0 closed 4
+225 0 done
+225 0 dive 5
+240 0 done
+240 0 start 5
+255 0 closed 5
+255 0 done
+end 0 255
 status infeasible
 ";
 

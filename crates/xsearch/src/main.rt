@@ -13,15 +13,19 @@ mod output;
 mod refusal;
 mod report;
 mod run;
+mod sample;
+mod search;
 mod show;
 mod solve;
 mod status;
+mod summary;
 
 pub use answer::answer_text;
 pub use check::check_command;
 pub use generate::gen_command;
 pub use laws::accepted_files_are_told;
 pub use run::run;
+pub use sample::sample_command;
 pub use show::show_command;
 pub use solve::solve_alone;
 use std::process::ExitCode;
@@ -56,5 +60,7 @@ fn command_words(rt: &(impl Env + AllocGlobal)) -> io::Result<Vec<String>> {
 mod certificate_tests;
 #[cfg(test)]
 mod log_tests;
+#[cfg(test)]
+mod sample_tests;
 #[cfg(test)]
 mod tests;

@@ -9,6 +9,7 @@ use crate::check::check_command;
 use crate::generate::gen_command;
 use crate::output::Failure;
 use crate::report::finish;
+use crate::sample::sample_command;
 use crate::show::show_command;
 use crate::solve::solve_alone;
 use std::alloc::Global;
@@ -20,16 +21,18 @@ use xsearch_words::{Job, JobError, Shelf, Sink, settings};
 /// write the certificate of a finished search to the file NAME of `--cert=NAME` and the log to that
 /// of `--log=NAME`, where these are given, and put the answer on the sink; `--tasks=N` sets the
 /// number of slots that search, `--work=N` and `--store=N` their limits, `--cuts=yes|no` whether cuts
-/// are derived, which they are without it, and `--default-upper=N` the upper bound of columns that
-/// have none. `check MODEL CERT` reads the model file, admits it, reads the certificate file CERT and
-/// puts whether the checker accepts it. `show MODEL` puts the canonical text of the file's model, and
-/// `gen NUMBER` that of a sample model.
+/// are derived and `--heuristics=yes|no` whether the search dives for points, both of which it does
+/// without them, and `--default-upper=N` the upper bound of columns that have none. `check MODEL CERT`
+/// reads the model file, admits it, reads the certificate file CERT and puts whether the checker
+/// accepts it. `show MODEL` puts the canonical text of the file's model, and `gen NUMBER` that of a
+/// sample model. `sample NUMBER` searches this model by the settings that it is given, reads and
+/// writes no file, and puts one line that sums the search up.
 ///
-/// The status is 0 where an optimal or infeasible answer, an acceptance or a canonical text went out,
-/// 2 where the words ask nothing, 3 and 4 where the limit on work or the store ended the search, 5
-/// where a file is too long, a line of it isn't allowed or its model isn't admitted, 6 where a read
-/// or a write failed, 7 where the put failed, 8 where memory could not be had, and 9 where the
-/// certificate is rejected.
+/// The status is 0 where an optimal or infeasible answer or the summary of one, an acceptance or a
+/// canonical text went out, 2 where the words ask nothing, 3 and 4 where the limit on work or the
+/// store ended the search, 5 where a file is too long, a line of it isn't allowed or its model isn't
+/// admitted, 6 where a read or a write failed, 7 where the put failed, 8 where memory could not be
+/// had, and 9 where the certificate is rejected.
 ///
 /// A text goes out by one put, after all files are written. After 6 and 8 nothing has gone out and
 /// some first files are written; after 7 all are, and a front of the text has gone out. No other
@@ -60,5 +63,6 @@ fn run_job<S: Shelf, O: Sink>(alloc: Global, job: &Job, shelf: &mut S, out: &mut
         Job::Check(job) => check_command(alloc, job, shelf, out),
         Job::Show(model) => show_command(alloc, model, shelf, out),
         Job::Gen(number) => gen_command(alloc, *number, out),
+        Job::Sample(job) => sample_command(alloc, job, out),
     }
 }

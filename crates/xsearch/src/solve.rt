@@ -1,7 +1,6 @@
-ghost use Rattle.std.specs.Prelude.{◌≡◌, ◌++◌, false, IfOk, OnOk};
+ghost use Rattle.std.specs.Prelude.{◌≡◌, ◌++◌, IfOk, OnOk};
 ghost use Rattle.ip_core.specs.declared.model.ModelParts.{ModelParts};
 ghost use Rattle.mps_model.specs.MpsModels.{IsMpsModel};
-ghost use Rattle.stamp_machine.specs.Limits.{AreLimits};
 ghost use Rattle.task_steps.specs.Truth.{IsHistory};
 ghost use Rattle.tree_build.specs.Certificates.{proof_of};
 ghost use Rattle.width_admit.specs.Admission.{IsCause};
@@ -9,7 +8,7 @@ ghost use Rattle.xsearch.specs.Causes.{IsAnswer, IsSolved, IsSolvedFile};
 ghost use Rattle.xsearch.specs.FileJobs.{IsFileJob};
 ghost use Rattle.xsearch.specs.ModelFiles.{IsModelFailure, IsModelFile, IsSmall};
 ghost use Rattle.xsearch.specs.Runs.{Ends};
-ghost use Rattle.xsearch.specs.Searches.{limits_of as limits_of_tune, machine_answer, settings_of as settings_of_tune};
+ghost use Rattle.xsearch.specs.Searches.{machine_answer};
 ghost use Rattle.xsearch.specs.Writes.{certificate_file, log_file, solve_files as solve_files_of};
 ghost use Rattle.xsearch_words.specs.Jobs.{IsSolveJob};
 ghost use Rattle.xsearch_words.specs.Tunes.{IsTune};
@@ -19,20 +18,18 @@ use crate::files::write_files;
 use crate::model_file::read_model;
 use crate::output::{Failure, Output};
 use crate::report::finish;
+use crate::search::{limits_of, search_model, settings_of};
 use crate::status::exit_status;
 use cert_text::print;
 use ip_core::{List, Model, OutOfMemory, Text};
 use log_text::log_text;
 use mps_read::MpsModel;
-use node_pool::SearchSettings;
-use stamp_machine::{History, Limits, run_alone};
+use stamp_machine::History;
 use std::alloc::Global;
-use task_steps::{
-    Answer, Search, Status, answer_of, answers_are_true, histories_are_read, limits_are_met,
-};
-use tree_build::{build, finished_searches_are_accepted};
+use task_steps::{Answer, Status};
+use tree_build::build;
 use width_admit::{AdmitError, admit};
-use xsearch_words::{OutputFile, Shelf, Sink, SolveJob, Tune};
+use xsearch_words::{OutputFile, Shelf, Sink, SolveJob};
 
 /// Does the commands `solve` and `alone`, and answers the exit status: reads and admits the model of
 /// a file, searches it, writes certificate and log, and puts the answer, or the one refusal line.
@@ -93,27 +90,25 @@ fn refuse(mps: &MpsModel, job: &SolveJob, error: AdmitError) -> Result<Output, F
     }
 }
 
-/// Lets the slots search the model, and makes the text and the files of their history.
-#[tactic(auto, using(crate::proofs::TrueAnswers::one_each))]
+/// Searches the model, and makes the text and the files of the search.
 fn answer(alloc: Global, model: Model, job: &SolveJob) -> Result<Output, OutOfMemory>
     requires { IsTune job.now.tune }
     ensures { IfOk result (λ output.
         IsAnswer model job.now (machine_answer model job.now.tune) output) }
 {
-    let search = Search::new(model, settings_of(&job.tune));
-    let limits = limits_of(&job.tune);
-    let history = run_alone(alloc, &search, &limits)?;
-    histories_are_read(&search, &limits);
-    answers_are_true(&search, &limits);
-    limits_are_met(&search, &limits);
-    finished_searches_are_accepted(&search, &limits);
-    let answer = answer_of(alloc, search.model(), &history)?;
-    let text = answer_text(alloc, search.model(), &answer)?;
-    let files = solve_files(alloc, job, search.model(), &history, &answer)?;
+    let ended = search_model(alloc, model, &job.tune)?;
+    let text = answer_text(alloc, ended.search.model(), &ended.answer)?;
+    let files = solve_files(
+        alloc,
+        job,
+        ended.search.model(),
+        &ended.history,
+        &ended.answer,
+    )?;
     Ok(Output {
         files,
         text,
-        exit: exit_status(answer.status),
+        exit: exit_status(ended.answer.status),
     })
 }
 
@@ -181,29 +176,4 @@ fn add_log(
         name: name.copy(alloc)?,
         text: log_text(alloc, &limits, settings, history, status_word(status))?,
     })
-}
-
-/// A slot for each task, each with the limits that are set.
-fn limits_of(tune: &Tune) -> Limits
-    requires { IsTune tune.now }
-    ensures value { result ≡ limits_of_tune tune.now }
-    ensures ranges { AreLimits result }
-{
-    Limits {
-        slots: tune.tasks,
-        work: tune.work,
-        store: tune.store,
-    }
-}
-
-/// The switches that are set: there are no dives yet.
-fn settings_of(tune: &Tune) -> SearchSettings
-    requires { IsTune tune.now }
-    ensures value { result ≡ settings_of_tune tune.now }
-    ensures dives { result.heuristics ≡ false }
-{
-    SearchSettings {
-        cuts: tune.cuts,
-        heuristics: tune.heuristics,
-    }
 }

@@ -493,7 +493,7 @@ fn first_unsolved(
 }
 
 /// Words by which each of these models is solved.
-const SOLVING: [&str; 8] = [
+const SOLVING: [&str; 12] = [
     "solve m --default-upper=9 --tasks=1",
     "solve m --default-upper=9 --tasks=1 --cuts=no",
     "solve m --default-upper=9 --tasks=2 --cuts=no",
@@ -502,6 +502,10 @@ const SOLVING: [&str; 8] = [
     "alone m --default-upper=9 --tasks=9 --cuts=no",
     "alone m --default-upper=9 --tasks=64",
     "alone m --default-upper=9 --tasks=64 --cuts=no",
+    "solve m --default-upper=9 --tasks=1 --heuristics=no",
+    "solve m --default-upper=9 --tasks=1 --cuts=no --heuristics=no",
+    "alone m --default-upper=9 --tasks=4 --heuristics=yes",
+    "solve m --default-upper=9 --tasks=7 --cuts=no --heuristics=no",
 ];
 
 #[test]

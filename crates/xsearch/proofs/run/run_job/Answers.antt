@@ -12,7 +12,11 @@ returns-in-Alone-clause-cause g c = rw c.in-Alone.is c.solve_alone-in-Alone.ensu
 
 pub returns-in-Gen-clause-cause : goal.returns-in-Gen-clause-cause
 returns-in-Gen-clause-cause g c =
-    rw c.in-Gen.is (weaker _ _ _ _ _ (λ ended print. record { print = print; unused = refl }) c.gen_command.ensures)
+    rw c.in-Gen.is (weaker _ _ _ _ _ (λ ended comes. record { comes = comes; unused = refl }) c.gen_command.ensures)
+
+pub returns-in-Sample-clause-cause : goal.returns-in-Sample-clause-cause
+returns-in-Sample-clause-cause g c =
+    rw c.in-Sample.is (weaker _ _ _ _ _ (λ ended comes. record { comes = comes; unused = refl }) c.sample_command.ensures)
 
 pub returns-in-Solve-clause-accepted : goal.returns-in-Solve-clause-accepted
 returns-in-Solve-clause-accepted g c =

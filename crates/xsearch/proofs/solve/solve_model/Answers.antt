@@ -11,5 +11,5 @@ returns-in-Ok-answer c = Solved (record {
   is = refl;
   admits = c.in-Ok.ensures;
   of_model = c.in-Ok-answer.ensures;
-  of_file = true_of_file c.args.mps.now c.args.job.now.default_upper c.in-Ok.model c.requires.kept c.in-Ok.ensures _ c.in-Ok-answer.ensures.truth;
+  of_file = true_of_file c.args.mps.now c.args.job.now.default_upper c.in-Ok.model c.requires.kept c.in-Ok.ensures _ c.in-Ok-answer.ensures.searched.truth;
 })
