@@ -1,5 +1,5 @@
 -- How what was found becomes the end of a run.
-use Rattle.std.proofs.Common.{◌≡◌, ◌∙◌, ◌^◌, ℕ, List, Result, Ok, Err, refl, sym, ap, subst}
+use Rattle.std.proofs.Common.{◌≡◌, ◌^◌, ℕ, List, Result, Ok, Err, refl, sym, ap, subst}
 use Rattle.mps_model.specs.declared.model.MpsModel.{MpsModel}
 use Rattle.tree_cert.specs.declared.certificate.Certificate.{Certificate}
 use Rattle.xsearch.specs.CertificateFiles.{IsCertificateFailure, IsCertificateFile}

@@ -112,7 +112,11 @@ fn fails_at_its_put(alloc: Global) -> Result<bool, OutOfMemory> {
     let mut out = MemorySink::new(alloc, numbers(alloc, &[1])?, 10);
     let words = words(alloc, "sample 1 --work=0")?;
     let code = run(alloc, words.as_slice(), &mut shelf, &mut out);
-    Ok(code == 7 && out.bytes() == b"sample 1 s" && (shelf.faults(), out.faults()) == (0, 1))
+    Ok(
+        code == 7
+            && out.bytes() == b"sample 1 s".as_slice()
+            && (shelf.faults(), out.faults()) == (0, 1),
+    )
 }
 
 #[test]

@@ -1,5 +1,5 @@
 use Rattle.xsearch.specs.Causes.{Asked}
-use Rattle.xsearch.proofs.AcceptedFiles.{accepted_if_asked, failed_if_asked}
+use Rattle.xsearch.proofs.AcceptedFiles.{accepted_if_asked}
 use Rattle.xsearch.proofs.Running.{weaker}
 use Rattle.xsearch.proofs.run.run.Goals as goal
 

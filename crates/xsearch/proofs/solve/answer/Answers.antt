@@ -1,4 +1,4 @@
-use Rattle.std.proofs.Common.{◌≡◌, ◌∙◌, List, Option, ap}
+use Rattle.std.proofs.Common.{◌∙◌, ap}
 use Rattle.ip_core.specs.declared.model.ModelParts.{ModelParts}
 use Rattle.stamp_machine.specs.declared.history.History.{History}
 use Rattle.task_steps.specs.declared.answer.Answer.{Answer}
