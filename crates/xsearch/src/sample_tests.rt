@@ -12,7 +12,7 @@ struct Summed {
     output: &'static [u8],
 }
 
-const SUMMED: [Summed; 8] = [
+const SUMMED: [Summed; 6] = [
     Summed {
         words: "sample 1 --work=0",
         status: 3,
@@ -28,17 +28,6 @@ const SUMMED: [Summed; 8] = [
         words: "sample --tasks=1 --work=1 01",
         status: 3,
         output: b"sample 1 status worklimit objective none entries 1\n",
-    },
-    // an entry of a cut, and one of a point, is longer than the store
-    Summed {
-        words: "sample 1 --tasks=1 --store=64",
-        status: 4,
-        output: b"sample 1 status storelimit objective none entries 2\n",
-    },
-    Summed {
-        words: "sample 1 --cuts=no --tasks=1 --store=64",
-        status: 4,
-        output: b"sample 1 status storelimit objective none entries 2\n",
     },
     Summed {
         words: "sample 1 --cuts=no --heuristics=no --tasks=1 --work=1",
@@ -102,6 +91,16 @@ fn one_sample_gives_one_summary(rt: HostRuntime) -> Result<(), Fail> {
     let begins = b"sample 1 status worklimit objective ";
     let line = "sample 1 --tasks=2 --work=1000000";
     assert!(rt; puts_twice(rt.alloc(), line, 3, begins)?);
+    Ok(())
+}
+
+/// No point is told, since one has 405 words. Each chunk tells 4 words at least, so that fifteen of
+/// them fill the store, and counts less than a twentieth of the limit on work.
+#[test]
+fn a_sample_that_fills_the_store(rt: HostRuntime) -> Result<(), Fail> {
+    let begins = b"sample 1 status storelimit objective none entries ";
+    let line = "sample 1 --tasks=1 --cuts=no --heuristics=no --store=64";
+    assert!(rt; puts_twice(rt.alloc(), line, 4, begins)?);
     Ok(())
 }
 
