@@ -146,23 +146,25 @@ module _ (b : BoardView) (s s' : SeatView) (seat : IsSeat b s) where
         same = seat.same;
         own_slot = seat.own_slot;
         size = length-set s.seen slot clock ∙ seat.size;
+        looks_size = length-set s.looks slot (slice_index s.looks slot + 1) ∙ seat.looks_size;
+        fetched_size = seat.fetched_size;
       })
 
   pub seat_after_fetch : (slot count : ℕ) → s' ≡ with_fetch slot count s → IsSeat b s'
   seat_after_fetch slot count e = let P : SeatView → Type 0 = λ z. IsSeat b z in
-      subst P (sym e) (record { same = seat.same; own_slot = seat.own_slot; size = seat.size })
+      subst P (sym e) (record { same = seat.same; own_slot = seat.own_slot; size = seat.size; looks_size = seat.looks_size; fetched_size = length-set s.fetched slot (slice_index s.fetched slot + count) ∙ seat.fetched_size })
 
   pub seat_after_put : (written : ℕ) → s' ≡ record s { written = written } → IsSeat b s'
   seat_after_put written e = let P : SeatView → Type 0 = λ z. IsSeat b z in
-      subst P (sym e) (record { same = seat.same; own_slot = seat.own_slot; size = seat.size })
+      subst P (sym e) (record { same = seat.same; own_slot = seat.own_slot; size = seat.size; looks_size = seat.looks_size; fetched_size = seat.fetched_size })
 
   pub seat_after_raise : (stamp : ℕ) → s' ≡ record s { own = stamp } → IsSeat b s'
   seat_after_raise stamp e = let P : SeatView → Type 0 = λ z. IsSeat b z in
-      subst P (sym e) (record { same = seat.same; own_slot = seat.own_slot; size = seat.size })
+      subst P (sym e) (record { same = seat.same; own_slot = seat.own_slot; size = seat.size; looks_size = seat.looks_size; fetched_size = seat.fetched_size })
 
   pub seat_after_stop : (stop : Bool) → s' ≡ record s { stop = stop } → IsSeat b s'
   seat_after_stop stop e = let P : SeatView → Type 0 = λ z. IsSeat b z in
-      subst P (sym e) (record { same = seat.same; own_slot = seat.own_slot; size = seat.size })
+      subst P (sym e) (record { same = seat.same; own_slot = seat.own_slot; size = seat.size; looks_size = seat.looks_size; fetched_size = seat.fetched_size })
 
   pub seat_after_join : (t : SeatView) → IsSeat b t → s' ≡ with_join s t → IsSeat b s'
   seat_after_join t other e = let P : SeatView → Type 0 = λ z. IsSeat b z in
@@ -170,6 +172,8 @@ module _ (b : BoardView) (s s' : SeatView) (seat : IsSeat b s) where
         same = seat.same;
         own_slot = seat.own_slot;
         size = greater_length s.seen t.seen (seat.size ∙ sym other.size) ∙ seat.size;
+        looks_size = seat.looks_size;
+        fetched_size = seat.fetched_size;
       })
 
 -- one seat more is handed out
@@ -193,4 +197,4 @@ handed_seen table' table v story shape slot same e = ap (λ (t : TableId). seat_
 pub new_seat_is : (board : BoardView) (slot : ℕ) → slot < board.shape.slots
     → IsSeat board (new_seat board slot)
 new_seat_is board slot lt =
-    record { same = refl; own_slot = lt; size = length-replicate board.shape.slots 0 }
+    let all = length-replicate board.shape.slots 0 in record { same = refl; own_slot = lt; size = all; looks_size = all; fetched_size = all }

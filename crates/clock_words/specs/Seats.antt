@@ -72,11 +72,14 @@ due_seen s slot = due (list_of s.board.story slot) (clock_seen s slot)
 abbrev pub own_list : SeatView → List StampedWord
 own_list s = list_of s.board.story s.slot
 
--- a seat of this board, which carries the lists of its story
+-- a seat of this board, which carries the lists of its story, and knows of each slot a clock, a
+-- count of looks and a count of words fetched
 pub record IsSeat (board : BoardView) (s : SeatView) : Type 0 where
   pub same : s.board ≡ board
   pub own_slot : s.slot < board.shape.slots
   pub size : length s.seen ≡ board.shape.slots
+  pub looks_size : length s.looks ≡ board.shape.slots
+  pub fetched_size : length s.fetched ≡ board.shape.slots
 
 -- after a look at a slot that found this clock
 abbrev pub with_look : ℕ → ℕ → SeatView → SeatView
