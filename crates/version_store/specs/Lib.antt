@@ -1,0 +1,11 @@
+pub mod Stories
+pub mod Carriers
+pub mod Absorbing
+pub mod Advances
+pub mod Hearing
+pub mod Awaiting
+pub mod Closing
+pub mod Moving
+pub mod Publishing
+pub mod Pulses
+pub mod Gathers
