@@ -1,5 +1,5 @@
 -- Clock words as numbers.
-use Rattle.std.proofs.Common.{ℕ, ◌^◌, ◌<◌, ◌≤◌, ◌≡◌, Bool, cond, inl, inr, refl, sym, subst, eq-eqb, ne_eqb, List, arith}
+use Rattle.std.proofs.Common.{ℕ, ◌-◌, ◌/◌, ◌^◌, ◌<◌, ◌≤◌, ◌≡◌, Bool, true, false, cond, nat_lt, inl, inr, refl, sym, subst, eq-eqb, ne_eqb, List, arith}
 use Rattle.std.proofs.lemmas.Bool.Decides.{nat_tests}
 use mathlib.Core.Logic.{dite}
 use native.Mathlib.Decide.{ℕ_discrete}
@@ -12,6 +12,15 @@ use Rattle.clock_words.specs.declared.view.View.{View}
 -- a later clock word has no smaller stamp
 pub stamps_rise : (m n : ℕ) → m ≤ n → stamp_of m ≤ stamp_of n
 stamps_rise m n le = grind (arith, nat_tests)
+
+-- each clock word has a stamp that a clock word can hold
+is_one_of : (b : Bool) (low : ℕ) → (b ≡ true → low < 2 ^ 41 - 1) → IsStamp (cond b low (2 ^ 62))
+is_one_of true low below = inl (below refl)
+is_one_of false low below = inr refl
+
+pub stamp_is : (word : ℕ) → IsStamp (stamp_of word)
+stamp_is word = is_one_of (nat_lt (word / 2 ^ 23) (2 ^ 41 - 1)) (word / 2 ^ 23)
+    (λ e. grind (arith, nat_tests))
 
 pub stamp_again : (stamp count : ℕ) → IsStamp stamp → count < 2 ^ 23
     → stamp_of (clock_word stamp count) ≡ stamp

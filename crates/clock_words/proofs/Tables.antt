@@ -42,6 +42,10 @@ module _ (shape : Shape) (story : Lists) (table : TableId) (key_shape : Shape) (
       ap (λ (z : Shape). z.slots) is.told_shape in
       let c = slot_known slot lt in omega arith
 
+  -- the table has the words of the shape that it was told
+  pub size_told : table.words ≡ word_count key_shape
+  size_told = is.size ∙ ap word_count (sym is.told_shape)
+
   -- what is within the areas of the board is within those that the table was told
   pub within_told : AreWithin key_shape.area key_story
   within_told = let P : Shape → Lists → Type 0 = λ z l. AreWithin z.area l in

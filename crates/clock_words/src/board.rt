@@ -8,7 +8,9 @@ use crate::clock::{raised_word, stamp_of};
 use crate::rule::{BoardRule, Setup, TakeIn};
 use crate::seat::BoardSeat;
 use crate::seating::{hand_out, keep_greater, zero_words};
-use crate::steps::{load_clock, load_stop, load_words, raise_clock, raise_stop, store_words};
+use crate::steps::{
+    load_clock, load_stop, load_words, peek_clock, raise_clock, raise_stop, store_words,
+};
 use crate::story::Story;
 use crate::view::{Shape, View};
 use atomic_table::Table;
@@ -87,6 +89,15 @@ impl<S: Story> Board<S> {
         let word = load_clock(&self.table.shared, &mut seat.place, slot);
         seat.seen[slot as usize] = word;
         stamp_of(word)
+    }
+
+    /// A slot's clock as it stands now, for those who wait for it. It needs no seat, and no contract
+    /// says which clock it is: what is due is known after a look alone.
+    pub fn hint(&self, slot: u32) -> u64
+        requires { slot < self.now.shape.slots }
+        ensures { IsStamp result }
+    {
+        stamp_of(peek_clock(&self.table.shared, slot))
     }
 
     /// Loads words of a slot from a place on, which are due below the clock seen. They become the

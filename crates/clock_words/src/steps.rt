@@ -1,7 +1,7 @@
 //! The steps of a seat on the table. Each is one atomic step on one word, or a row of them.
 ghost use Rattle.std.specs.Prelude.{◌≡◌, ◌+◌, ◌<◌, ◌≤◌, true, length, map, drop, take, nat_lt, slice_index};
 ghost use Rattle.clock_words.specs.Clocks.{stamp_of};
-ghost use Rattle.clock_words.specs.Places.{IsShape, area_place as place_of_area, clock_place as place_of_clock};
+ghost use Rattle.clock_words.specs.Places.{IsShape, area_place as place_of_area, clock_place as place_of_clock, word_count};
 ghost use Rattle.clock_words.specs.Rule.{IsRaise};
 ghost use Rattle.clock_words.specs.Seats.{IsAtTable, IsSamePlace};
 ghost use Rattle.clock_words.specs.Steps.{HasAsked, HasLooked};
@@ -46,6 +46,14 @@ pub(crate) fn load_clock<S: Story>(words: &Words<S>, place: &mut Place, slot: u3
     ensures found { HasLooked slot place.old.me result place.new.me }
 {
     words.load::<Look>(place, clock_place(slot))
+}
+
+/// Loads the clock word of a slot with no seat, which tells nothing of it.
+pub(crate) fn peek_clock<S: Story>(words: &Words<S>, slot: u32) -> u64
+    requires size { words.now.table_id.words ≡ word_count words.now.key.shape }
+    requires slot { slot < words.now.key.shape.slots }
+{
+    words.peek(clock_place(slot))
 }
 
 /// Loads words of a slot that are due below the clock seen.

@@ -13,7 +13,7 @@ use Rattle.stamp_machine.specs.Slots.{key_of}
 use Rattle.stamp_machine.specs.declared.limits.Limits.{Limits}
 use Rattle.work_stamp.specs.Taskers.{Rules}
 use Rattle.work_stamp.specs.declared.key.Key.{Key}
-use Rattle.version_store.specs.Advances.{HasSparedLooks, IsEnough, IsSameSeat}
+use Rattle.version_store.specs.Advances.{HasSparedLooks, IsEnough}
 use Rattle.version_store.specs.Awaiting.{HasAwaited, IsHeardOrWaits}
 use Rattle.version_store.specs.Carriers.{IsAtMove, IsStanding, clock_heard}
 use Rattle.version_store.specs.Hearing.{CanHearAll, HasHeardOn, HasHeardOthers, IsFound, is_enough}
@@ -151,6 +151,3 @@ module _ {V L : Type 0} (r : Rules V L) (FitsView : V → Type 0) (limits : Limi
       } where
         never : (b : Bool) → b ≡ true → b ≡ false → ⊥
         never b e f = cc
-
-  pub same_seat : {key : Key} → HasHeardOthers key old new p.heard → IsSameSeat old new
-  same_seat others = record { seat = others.seat; slot = others.own_slot }

@@ -22,3 +22,5 @@ pub mod FedEntries
 pub mod TakenEntries
 pub mod EndedSlots
 pub mod GatheredSlots
+pub mod Within
+pub mod Seats

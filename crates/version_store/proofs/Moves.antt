@@ -26,7 +26,7 @@ use Rattle.work_stamp.specs.Taskers.{IsLawful, Rules, Standing, view_of}
 use Rattle.work_stamp.specs.declared.entry.Entry.{Entry}
 use Rattle.work_stamp.specs.declared.key.Key.{Key}
 use Rattle.work_stamp.specs.declared.stamped.KeyedEntry.{KeyedEntry}
-use Rattle.version_store.specs.Advances.{IsSameSeat, has_live, view_read}
+use Rattle.version_store.specs.Advances.{has_live, view_read}
 use Rattle.version_store.specs.Carriers.{AreBelow, AreBelowWhileLive, AreFewWhileLive, IsStanding, clock_while_live}
 use Rattle.version_store.specs.Closing.{CloseFails, GoesAt, HasClosed, IsClosed, IsOpening, StaysOpen, opening_of, slot_before}
 use Rattle.version_store.specs.Moving.{HasMoved, MoveFails, MoveGoesOn, MoveIsDone}
@@ -113,9 +113,6 @@ module _ (V L : Type 0) (r : Rules V L) (FitsView : V → Type 0) (FitsLocal : L
   pub store_live : p.slot.words ≤ limits.store - 4
   store_live = subst (λ (x : Slot L). x.words ≤ limits.store - 4) (sym s.state) kept.can.store
 
-  pub key_before : (key : Key) → key ≡ key_of seat.slot p.slot → key ≡ K
-  key_before key is = is ∙ ap (λ (x : Slot L). key_of seat.slot x) s.state
-
   pub few : p.moves ≤ before.clock
   few = subst (λ (x : Slot L). p.moves ≤ x.clock) s.state
       (few_live p.slot.live live p.moves p.slot.clock (live_of p.slot.live alive).1 s.few)
@@ -123,9 +120,6 @@ module _ (V L : Type 0) (r : Rules V L) (FitsView : V → Type 0) (FitsLocal : L
   pub own_clock : seat.own ≡ before.clock
   own_clock = s.seated.own ∙ (ap (λ (o : Option (Live L)). clock_while_live p.slot.clock o) (live_of p.slot.live alive).1
       ∙ ap (λ (x : Slot L). x.clock) s.state)
-
-  pub stays : IsSameSeat seat seat
-  stays = record { seat = s.seated.owns; slot = refl }
 
   -- a move that doesn't read the history
   module _ (unread : reads r limits p.slot ≡ false) (es : List Entry) (slot : Slot L)

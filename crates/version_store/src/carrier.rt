@@ -71,6 +71,17 @@ impl<T: Tasker> Carrier<T> {
         }
     }
 
+    /// Whether the carrier has a move to make: it isn't broken, and its slot isn't over. It takes no
+    /// memory.
+    pub fn lives(&self) -> bool
+        ensures { result ≡ lives self.now }
+    {
+        match &self.parts {
+            Some(parts) => parts.lives(),
+            None => false,
+        }
+    }
+
     /// Calls the stop with the carrier's seat, which is one of this board's. A broken carrier may
     /// call it too. Nothing else changes, and it takes no memory.
     pub fn call_stop(&mut self, board: &Board<RunStory<'_, T>>)

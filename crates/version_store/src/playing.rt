@@ -1,5 +1,5 @@
 ghost use Rattle.std.specs.Prelude.{◌≡◌};
-ghost use Rattle.version_store.specs.Advances.{clock_while_whole, ended_while_whole};
+ghost use Rattle.version_store.specs.Advances.{clock_while_whole, ended_while_whole, lives_while_whole};
 
 use crate::{Advance, Heard};
 use clock_words::BoardSeat;
@@ -48,6 +48,16 @@ impl<V, L> Parts<V, L> {
     {
         match &self.playing {
             Some(playing) => playing.slot.live.is_none(),
+            None => false,
+        }
+    }
+
+    /// Whether there is a slot to work with, which lives.
+    pub fn lives(&self) -> bool
+        ensures { result ≡ lives_while_whole self.now.playing }
+    {
+        match &self.playing {
+            Some(playing) => playing.slot.live.is_some(),
             None => false,
         }
     }

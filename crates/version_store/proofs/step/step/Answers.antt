@@ -1,6 +1,7 @@
 use Rattle.std.proofs.Common.{refl, Ok, sym, subst}
 use Rattle.version_store.specs.Advances.{StepFails, HasOpened, HasStepped}
-use Rattle.version_store.proofs.Steps.{blocked_steps, done_steps, gone_steps, goes}
+use Rattle.version_store.proofs.Opens.{spared_still}
+use Rattle.version_store.proofs.Steps.{blocked_steps, done_steps, gone_steps, goes, looks_kept}
 use Rattle.version_store.proofs.step.step.Goals as goal
 
 pub returns-in-Ok-Done-clause-step : goal.returns-in-Ok-Done-clause-step
@@ -30,3 +31,10 @@ returns-in-Ok-Goes-clause-step g c =
 
 pub returns-in-Err-clause-step : goal.returns-in-Err-clause-step
 returns-in-Err-clause-step g c = StepFails c.in-Err.error refl
+
+pub returns-in-Ok-Goes-clause-looks : goal.returns-in-Ok-Goes-clause-looks
+returns-in-Ok-Goes-clause-looks g c =
+    let t = g.T.Tasker in
+    let a = c.args.tasker.now in
+    spared_still (t.rules a) (t.fits_view a) (t.fits_local a) c.args.limits.now c.args.seat c.finish-seat.result.0 c.args.playing c.open_move.new.seat c.in-Ok-Goes.ensures.looks
+    (looks_kept c.open_move.new.seat c.finish-seat.result.0 c.finish-seat.ensures.same)
