@@ -1,0 +1,4 @@
+pub mod Hands
+pub mod Crews
+pub mod Advances
+pub mod Crossing
