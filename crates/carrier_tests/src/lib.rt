@@ -1,0 +1,15 @@
+//! Tests that drive the carriers of a run on one thread: by a list of slots, in turn, each until it is blocked, and by
+//! numbers of a generator. Whatever the order is, the carriers end, and what they leave is the history of the machine
+//! that plays all slots itself.
+#![tactic(auto)]
+
+#[cfg(test)]
+mod drive;
+#[cfg(test)]
+mod numbers;
+#[cfg(test)]
+mod order;
+#[cfg(test)]
+mod relay;
+#[cfg(test)]
+mod tests;
