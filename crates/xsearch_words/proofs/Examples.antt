@@ -11,6 +11,7 @@ search model tasks work store default_upper = record {
   cert = None;
   log = None;
   tune = record { tasks = tasks; work = work; store = store; cuts = true; heuristics = true };
+  threads = 4;
   default_upper = default_upper;
 }
 
@@ -19,6 +20,9 @@ with_log name asked = record asked { log = Some name }
 
 abbrev with_cert : List ℕ → SolveJob → SolveJob
 with_cert name asked = record asked { cert = Some name }
+
+abbrev on_threads : ℕ → SolveJob → SolveJob
+on_threads threads asked = record asked { threads = threads }
 
 abbrev without_cuts : SolveJob → SolveJob
 without_cuts asked = record asked { tune = record (asked.tune) { cuts = false } }
@@ -179,8 +183,20 @@ certificate_of_another = refl
 log_of_another : job (codes "show" ∷ codes "m" ∷ codes "--log=l" ∷ []) ≡ None
 log_of_another = refl
 
-key_to_come : job (codes "solve" ∷ codes "m" ∷ codes "--threads=2" ∷ []) ≡ None
-key_to_come = refl
+many_threads : job (codes "solve" ∷ codes "m3" ∷ codes "--threads=64" ∷ []) ≡ Some (Solve (on_threads 64 (search (codes "m3") 4 200000000 1048576 None)))
+many_threads = refl
+
+threads_without_being_told : job (codes "solve" ∷ codes "m3" ∷ codes "--threads=4" ∷ []) ≡ job (codes "solve" ∷ codes "m3" ∷ [])
+threads_without_being_told = refl
+
+no_threads : job (codes "alone" ∷ codes "m3" ∷ codes "--threads=0" ∷ []) ≡ None
+no_threads = refl
+
+too_many_threads : job (codes "alone" ∷ codes "m3" ∷ codes "--threads=65" ∷ []) ≡ None
+too_many_threads = refl
+
+threads_of_another : job (codes "show" ∷ codes "m" ∷ codes "--threads=1" ∷ []) ≡ None
+threads_of_another = refl
 
 show : job (codes "show" ∷ codes "m" ∷ []) ≡ Some (Show (codes "m"))
 show = refl
@@ -206,8 +222,11 @@ many_digits = refl
 no_digit : job (codes "gen" ∷ codes "1x" ∷ []) ≡ None
 no_digit = refl
 
-sample : job (codes "sample" ∷ codes "01" ∷ codes "--work=7" ∷ []) ≡ Some (Sample (record { number = 1; tune = record { tasks = 4; work = 7; store = 1048576; cuts = true; heuristics = true } }))
+sample : job (codes "sample" ∷ codes "01" ∷ codes "--work=7" ∷ []) ≡ Some (Sample (record { number = 1; tune = record { tasks = 4; work = 7; store = 1048576; cuts = true; heuristics = true }; threads = 4 }))
 sample = refl
+
+sample_on_threads : job (codes "sample" ∷ codes "--threads=2" ∷ codes "1" ∷ codes "--work=7" ∷ []) ≡ Some (Sample (record { number = 1; tune = record { tasks = 4; work = 7; store = 1048576; cuts = true; heuristics = true }; threads = 2 }))
+sample_on_threads = refl
 
 sample_without_a_number : job (codes "sample" ∷ codes "m3" ∷ []) ≡ None
 sample_without_a_number = refl

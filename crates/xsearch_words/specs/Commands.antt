@@ -3,7 +3,7 @@ use Rattle.std.specs.Prelude.{ℕ, List, [], ◌∷◌, codes, Option, Some, Non
 use Rattle.xsearch_words.specs.declared.command.Command.{Command}
 use Rattle.xsearch_words.specs.declared.command.Command.TheVariants.{Solve, Alone, Check, Show, Gen, Sample}
 use Rattle.xsearch_words.specs.declared.command.Key.{Key}
-use Rattle.xsearch_words.specs.declared.command.Key.TheVariants.{Tasks, Work, Store, Cuts, Heuristics, DefaultUpper, Cert, Log}
+use Rattle.xsearch_words.specs.declared.command.Key.TheVariants.{Tasks, Threads, Work, Store, Cuts, Heuristics, DefaultUpper, Cert, Log}
 
 -- the command of a word
 abbrev pub command_of : List ℕ → Option Command
@@ -27,7 +27,7 @@ name_count Sample = 1
 
 -- the keys of a command that searches the model of a file
 abbrev pub search_keys : List Key
-search_keys = Tasks ∷ Work ∷ Store ∷ Cuts ∷ Heuristics ∷ DefaultUpper ∷ Cert ∷ Log ∷ []
+search_keys = Tasks ∷ Threads ∷ Work ∷ Store ∷ Cuts ∷ Heuristics ∷ DefaultUpper ∷ Cert ∷ Log ∷ []
 
 -- the keys of the command
 abbrev pub keys_of : Command → List Key
@@ -36,11 +36,12 @@ keys_of Alone = search_keys
 keys_of Check = DefaultUpper ∷ []
 keys_of Show = []
 keys_of Gen = []
-keys_of Sample = Tasks ∷ Work ∷ Store ∷ Cuts ∷ Heuristics ∷ []
+keys_of Sample = Tasks ∷ Threads ∷ Work ∷ Store ∷ Cuts ∷ Heuristics ∷ []
 
 -- what a word that gives the key a value begins with
 abbrev pub front : Key → List ℕ
 front Tasks = codes "--tasks="
+front Threads = codes "--threads="
 front Work = codes "--work="
 front Store = codes "--store="
 front Cuts = codes "--cuts="

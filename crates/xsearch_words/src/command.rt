@@ -16,6 +16,7 @@ pub(crate) enum Command {
 #[derive(Clone, Copy, Debug)]
 pub(crate) enum Key {
     Tasks,
+    Threads,
     Work,
     Store,
     Cuts,
@@ -65,6 +66,7 @@ impl Command {
         match self {
             Command::Solve | Command::Alone => &[
                 Key::Tasks,
+                Key::Threads,
                 Key::Work,
                 Key::Store,
                 Key::Cuts,
@@ -77,6 +79,7 @@ impl Command {
             Command::Show | Command::Gen => &[],
             Command::Sample => &[
                 Key::Tasks,
+                Key::Threads,
                 Key::Work,
                 Key::Store,
                 Key::Cuts,
@@ -93,6 +96,7 @@ impl Key {
     {
         match self {
             Key::Tasks => b"--tasks=",
+            Key::Threads => b"--threads=",
             Key::Work => b"--work=",
             Key::Store => b"--store=",
             Key::Cuts => b"--cuts=",

@@ -1,17 +1,22 @@
 ghost use Rattle.std.specs.Prelude.{◌≡◌, ◌≤◌, ◌^◌, map, IfOk, IfSome, IsTrue, MatchResult};
 ghost use Rattle.std.specs.Option.{option_copied};
 ghost use Rattle.std.specs.String.{string_bytes};
-ghost use Rattle.xsearch_words.specs.Jobs.{IsCheckJob, IsJob, IsJobCause, IsJobOf, IsSolveJob, check_job as check_job_of, command_job as command_job_of, model_number as model_number_of, sample_job as sample_job_of, solve_job as solve_job_of};
-ghost use Rattle.xsearch_words.specs.Tunes.{IsTune};
+ghost use Rattle.xsearch_words.specs.Jobs.{IsCheckJob, IsJob, IsJobCause, IsJobOf, IsSampleJob, IsSolveJob, IsThreadCount, check_job as check_job_of, command_job as command_job_of, model_number as model_number_of, sample_job as sample_job_of, solve_job as solve_job_of, threads_in as threads_in_words};
 ghost use Rattle.xsearch_words.specs.Forms.{IsOtherName, is_name, name_at as name_at_of, names_differ as names_differ_of, other_name as other_name_of, value as value_of};
 
 use crate::command::{Command, Key};
 use crate::form::{has_form, is_name, name_at, value};
-use crate::number::{number_between, optional_number};
+use crate::number::{number_between, number_or, optional_number};
 use crate::tune::tune_in;
 use crate::{JobError, Tune};
 use ip_core::{OutOfMemory, Text};
 use std::alloc::Global;
+
+/// The number of threads where the words give none.
+const DEFAULT_THREADS: u64 = 4;
+
+/// The greatest number of threads.
+const MAX_THREADS: u64 = 64;
 
 /// The greatest upper bound of the columns that have none of their own.
 const MAX_UPPER: u32 = 2_147_483_648;
@@ -42,6 +47,8 @@ pub struct SolveJob {
     pub log: Option<Text>,
     /// How the search is run.
     pub tune: Tune,
+    /// The number of threads that search, 1 to 64. `alone` doesn't use it.
+    pub threads: u32,
     /// The upper bound of each column that has none of its own, at most 2^31, if one is given.
     pub default_upper: Option<u32>,
 }
@@ -63,20 +70,22 @@ pub struct SampleJob {
     pub number: u64,
     /// How the search is run.
     pub tune: Tune,
+    /// The number of threads that search, 1 to 64.
+    pub threads: u32,
 }
 
 /// What the words of the command line ask, without the program's name.
 ///
 /// The first word is the command, which is one of `solve MODEL` and `alone MODEL`, both with the
-/// options `--tasks=N`, `--work=N`, `--store=N`, `--cuts=yes|no`, `--heuristics=yes|no`,
-/// `--default-upper=N`, `--cert=NAME` and `--log=NAME`, `check MODEL CERT` with the option
-/// `--default-upper=N`, `show MODEL`, `gen NUMBER`, and `sample NUMBER` with the first five of the
-/// options of `solve`. Each further word is `--key=value` with a key of the command, at most once
+/// options `--tasks=N`, `--threads=N`, `--work=N`, `--store=N`, `--cuts=yes|no`,
+/// `--heuristics=yes|no`, `--default-upper=N`, `--cert=NAME` and `--log=NAME`, `check MODEL CERT` with
+/// the option `--default-upper=N`, `show MODEL`, `gen NUMBER`, and `sample NUMBER` with the first six
+/// of the options of `solve`. Each further word is `--key=value` with a key of the command, at most once
 /// each, or a name: a word that isn't empty and doesn't begin with `-`. There are exactly as many
 /// names as the command has, and options may stand before, between and after them.
 ///
-/// A number is 1 to 20 decimal digits within its range: N of `--tasks` is 1 to 64, and 4 without
-/// it; N of `--work` is at most 10^12, and 200,000,000 without it; N of `--store`, in words for
+/// A number is 1 to 20 decimal digits within its range: N of `--tasks` and of `--threads` is 1 to 64,
+/// and 4 without it; N of `--work` is at most 10^12, and 200,000,000 without it; N of `--store`, in words for
 /// each task, is 64 to 2^22, and without it 2^22 divided by the number of tasks and rounded down;
 /// tasks times store is at most 2^22; N of `--default-upper` is at most 2^31; NUMBER is at most
 /// 2^64 - 1. Without `--cuts` or `--heuristics` it is yes. The NAMEs of `--cert` and `--log` are
@@ -137,6 +146,9 @@ fn solve_job(alloc: Global, words: &[String]) -> Result<Option<SolveJob>, OutOfM
     let Some(tune) = tune_in(words) else {
         return Ok(None);
     };
+    let Some(threads) = threads_in(words) else {
+        return Ok(None);
+    };
     let Some(default_upper) = optional_number(0, MAX_UPPER, value(Key::DefaultUpper, words)) else {
         return Ok(None);
     };
@@ -148,6 +160,7 @@ fn solve_job(alloc: Global, words: &[String]) -> Result<Option<SolveJob>, OutOfM
         cert,
         log,
         tune,
+        threads,
         default_upper,
     }))
 }
@@ -217,11 +230,25 @@ fn names_differ(first: &Option<Text>, second: &Option<Text>) -> bool
 
 fn sample_job(words: &[String]) -> Option<SampleJob>
     ensures value { result ≡ sample_job_of (map string_bytes words.now) }
-    ensures kept { IfSome result (λ job. IsTune job.tune) }
+    ensures kept { IfSome result IsSampleJob }
 {
     let number = model_number(words)?;
     let tune = tune_in(words)?;
-    Some(SampleJob { number, tune })
+    let threads = threads_in(words)?;
+    Some(SampleJob {
+        number,
+        tune,
+        threads,
+    })
+}
+
+/// How many threads search, or None where the value isn't lawful.
+fn threads_in(words: &[String]) -> Option<u32>
+    ensures value { result ≡ threads_in_words (map string_bytes words.now) }
+    ensures kept { IfSome result IsThreadCount }
+{
+    let threads = number_or(DEFAULT_THREADS, 1, MAX_THREADS, value(Key::Threads, words))?;
+    Some(threads as u32)
 }
 
 fn model_number(words: &[String]) -> Option<u64>

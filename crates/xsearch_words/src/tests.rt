@@ -456,7 +456,7 @@ const WITHOUT_DIVES: Tune = Tune {
     heuristics: false,
 };
 
-const CASES: [Case; 78] = [
+const CASES: [Case; 76] = [
     (&["solve", "m3"], Want::Solve("m3", PLAIN, None)),
     (
         &["solve", "--work=007", "m3"],
@@ -573,7 +573,6 @@ const CASES: [Case; 78] = [
         &["solve", "m3", "--tasks=1", "--store=4194305"],
         Want::Nothing,
     ),
-    (&["solve", "m", "--threads=2"], Want::Nothing),
     (&["solve", "m", "--default-upper=2147483649"], Want::Nothing),
     (&["show", "--default-upper=1", "m"], Want::Nothing),
     (&["gen", "--tasks=1", "1"], Want::Nothing),
@@ -596,7 +595,24 @@ const CASES: [Case; 78] = [
     (&["sample"], Want::Nothing),
     (&["sample", "1", "2"], Want::Nothing),
     (&["sample", "1", "--default-upper=9"], Want::Nothing),
-    (&["sample", "1", "--threads=1"], Want::Nothing),
+];
+
+/// Words, and how many threads they ask for. None where they ask nothing.
+const THREADS: [(&[&str], Option<u32>); 14] = [
+    (&["solve", "m3"], Some(4)),
+    (&["alone", "m3", "--log=l"], Some(4)),
+    (&["sample", "7"], Some(4)),
+    (&["solve", "m3", "--threads=1"], Some(1)),
+    (&["solve", "--tasks=9", "--threads=064", "m3"], Some(64)),
+    (&["alone", "m3", "--threads=2"], Some(2)),
+    (&["sample", "--threads=3", "7", "--tasks=1"], Some(3)),
+    (&["solve", "m3", "--threads=0"], None),
+    (&["alone", "m3", "--threads=65"], None),
+    (&["sample", "7", "--threads="], None),
+    (&["solve", "m3", "--threads=2", "--threads=2"], None),
+    (&["check", "m3", "c", "--threads=1"], None),
+    (&["show", "m", "--threads=1"], None),
+    (&["gen", "7", "--threads=1"], None),
 ];
 
 fn is_search(job: &SolveJob, model: &str, tune: Tune, default_upper: Option<u32>) -> bool {
@@ -622,13 +638,23 @@ fn is_check(job: &CheckJob, model: &str, cert: &str, default_upper: Option<u32>)
         && job.default_upper == default_upper
 }
 
+// What the words ask.
+fn asked(alloc: Global, words: &[&str]) -> Result<Job, JobError> {
+    let mut strings = Vec::new(alloc);
+    for word in words {
+        let Ok(string) = String::from_str(alloc, word) else {
+            return Err(JobError::Memory);
+        };
+        if strings.push(string).is_err() {
+            return Err(JobError::Memory);
+        }
+    }
+    settings(alloc, strings.as_slice())
+}
+
 // Whether the words ask what is wanted.
 fn asks(alloc: Global, case: Case) -> Result<bool, OutOfMemory> {
-    let mut words = Vec::new(alloc);
-    for word in case.0 {
-        words.push(String::from_str(alloc, word)?)?;
-    }
-    Ok(match (settings(alloc, words.as_slice()), case.1) {
+    Ok(match (asked(alloc, case.0), case.1) {
         (Ok(Job::Solve(job)), Want::Solve(model, tune, upper)) => {
             is_search(&job, model, tune, upper) && has_no_files(&job)
         }
@@ -661,6 +687,32 @@ fn asks(alloc: Global, case: Case) -> Result<bool, OutOfMemory> {
 fn words_ask_jobs(rt: HostRuntime) -> Result<(), Fail> {
     for (place, case) in CASES.iter().enumerate() {
         assert!(rt; asks(rt.alloc(), *case)?, "at row {place}");
+    }
+    Ok(())
+}
+
+// Whether the words ask for so many threads.
+fn asks_for(alloc: Global, words: &[&str], want: Option<u32>) -> Result<bool, OutOfMemory> {
+    match asked(alloc, words) {
+        Ok(job) => Ok(want.is_some() && threads_of(&job) == want),
+        Err(JobError::Words) => Ok(want.is_none()),
+        Err(JobError::Memory) => Err(OutOfMemory),
+    }
+}
+
+/// The number of threads of a job that searches.
+fn threads_of(job: &Job) -> Option<u32> {
+    match job {
+        Job::Solve(job) | Job::Alone(job) => Some(job.threads),
+        Job::Sample(job) => Some(job.threads),
+        Job::Check(_) | Job::Show(_) | Job::Gen(_) => None,
+    }
+}
+
+#[test]
+fn words_ask_for_threads(rt: HostRuntime) -> Result<(), Fail> {
+    for (place, (words, want)) in THREADS.iter().enumerate() {
+        assert!(rt; asks_for(rt.alloc(), words, *want)?, "at row {place}");
     }
     Ok(())
 }
