@@ -1,6 +1,6 @@
 -- The search that words set: the machine's, with so many slots. Who asks only whether an answer is
 -- true needn't read it.
-use Rattle.std.specs.Prelude.{◌≡◌}
+use Rattle.std.specs.Prelude.{◌≡◌, Result, IfOk}
 use Rattle.ip_core.specs.declared.model.ModelParts.{ModelParts}
 use Rattle.node_pool.specs.declared.settings.SearchSettings.{SearchSettings}
 use Rattle.task_steps.specs.Answers.{answer_of}
@@ -10,6 +10,8 @@ use Rattle.tree_build.specs.Certificates.{proof_of}
 use Rattle.tree_build.specs.Laws.{IsProofIfMade}
 use Rattle.task_steps.specs.Rules.{rules}
 use Rattle.task_steps.specs.declared.answer.Answer.{Answer}
+use Rattle.task_steps.specs.declared.search.Search.{Search}
+use Rattle.stamp_machine.specs.Limits.{AreLimits}
 use Rattle.stamp_machine.specs.Machine.{history}
 use Rattle.stamp_machine.specs.declared.history.History.{History}
 use Rattle.stamp_machine.specs.declared.limits.Limits.{Limits}
@@ -38,3 +40,19 @@ pub record IsSearchAnswer (m : ModelParts) (tune : Tune) (answer : Answer) : Typ
   pub truth : IsTrueAnswer m answer
   pub proof : IsProofIfMade m (proof_of m (machine_history m tune) answer)
   pub limit : IsLimitCause m (settings_of tune) (limits_of tune) answer.status
+
+-- A call that plays the slots of a search may be made within all limits.
+pub record CanPlay (pre : Search → Limits → Type 0) : Type 0 where
+  pub each : (search : Search) (limits : Limits) → AreLimits limits → pre search limits
+
+-- the search was given back with the machine's history
+pub record IsPlayed (search : Search) (limits : Limits) (played : Search × History) : Type 0 where
+  pub same : played.0 ≡ search
+  pub machine : played.1 ≡ history (rules search.model search.settings) limits
+
+-- It gives the search back with the machine's history, whatever plays the slots.
+pub record PlaysMachine {E : Type 0}
+    (post : Search → Limits → Result (Search × History) E → Type 0) : Type 0 where
+  pub each :
+      (search : Search) (limits : Limits) (found : Result (Search × History) E)
+      → post search limits found → IfOk found (IsPlayed search limits)

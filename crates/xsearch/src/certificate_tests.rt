@@ -1,9 +1,10 @@
 use crate::log_tests::{LOG_OF_HALVES, LOG_WITHOUT_WORK};
 use crate::run;
-use crate::tests::{COVER, HALVES, ODD, ONE, ONE_UNENDED, UNBOUNDED, numbers, text, words};
+use crate::tests::{COVER, HALVES, Host, ODD, ONE, ONE_UNENDED, UNBOUNDED, numbers, text, words};
 use ip_core::{List, OutOfMemory};
 use std::alloc::Global;
 use std::test::Fail;
+use task_crew::OpenGate;
 use xsearch_words::{MemoryShelf, MemorySink, SureShelf, SureSink};
 
 /// That 2x = 3 has no whole number from 0 to 5: the first row gives 2, and the second conflicts.
@@ -231,28 +232,29 @@ fn set(alloc: Global, shelf: &mut SureShelf, name: &[u8], bytes: &[u8]) -> Resul
 }
 
 /// Whether a check ends with this status and puts this.
-fn is_checked(
-    alloc: Global,
+fn is_checked<R: Host>(
+    rt: &R,
     line: &str,
     model: &[u8],
     cert: &[u8],
     want: (u8, &[u8]),
 ) -> Result<bool, OutOfMemory> {
+    let alloc = rt.alloc();
     let mut shelf = SureShelf::new(alloc);
     set(alloc, &mut shelf, b"m", model)?;
     set(alloc, &mut shelf, b"c", cert)?;
     let mut out = SureSink::new(alloc);
     let words = words(alloc, line)?;
-    let code = run(alloc, words.as_slice(), &mut shelf, &mut out);
+    let code = run(rt, alloc, words.as_slice(), &mut shelf, &mut out, &OpenGate);
     Ok((code, out.bytes()) == want)
 }
 
 /// The number of the first check that ends otherwise.
-fn first_other_check(alloc: Global, cases: &[Checked]) -> Result<Option<usize>, OutOfMemory> {
+fn first_other_check<R: Host>(rt: &R, cases: &[Checked]) -> Result<Option<usize>, OutOfMemory> {
     for i in 0..cases.len() {
         let case = &cases[i];
         let want = (case.status, case.output);
-        if !is_checked(alloc, case.words, case.model, case.cert, want)? {
+        if !is_checked(rt, case.words, case.model, case.cert, want)? {
             return Ok(Some(i));
         }
     }
@@ -261,7 +263,7 @@ fn first_other_check(alloc: Global, cases: &[Checked]) -> Result<Option<usize>, 
 
 #[test]
 fn certificates_are_checked(rt: HostRuntime) -> Result<(), Fail> {
-    assert_eq!(rt; first_other_check(rt.alloc(), &CHECKED)?, None);
+    assert_eq!(rt; first_other_check(&rt, &CHECKED)?, None);
     Ok(())
 }
 
@@ -292,10 +294,10 @@ const CUT_SHORT: [&[u8]; 8] = [
 ];
 
 /// The number of lines that are kept of a certificate that isn't refused as told.
-fn first_other_front(alloc: Global) -> Result<Option<usize>, OutOfMemory> {
+fn first_other_front<R: Host>(rt: &R) -> Result<Option<usize>, OutOfMemory> {
     for lines in 0..CUT_SHORT.len() {
         let cert = front(CERT_OF_COVER, lines);
-        if !is_checked(alloc, "check m c", COVER, cert, (5, CUT_SHORT[lines]))? {
+        if !is_checked(rt, "check m c", COVER, cert, (5, CUT_SHORT[lines]))? {
             return Ok(Some(lines));
         }
     }
@@ -304,7 +306,7 @@ fn first_other_front(alloc: Global) -> Result<Option<usize>, OutOfMemory> {
 
 #[test]
 fn fronts_of_a_certificate_are_refused(rt: HostRuntime) -> Result<(), Fail> {
-    assert_eq!(rt; first_other_front(rt.alloc())?, None);
+    assert_eq!(rt; first_other_front(&rt)?, None);
     Ok(())
 }
 
@@ -426,7 +428,8 @@ const WRITTEN: [Written; 11] = [
 ];
 
 /// Whether a run ends as is told.
-fn is_written(alloc: Global, case: &Written) -> Result<bool, OutOfMemory> {
+fn is_written<R: Host>(rt: &R, case: &Written) -> Result<bool, OutOfMemory> {
+    let alloc = rt.alloc();
     let mut shelf = MemoryShelf::new(alloc, numbers(alloc, case.shelf_calls)?, 10);
     shelf.set(
         text(alloc, b"m")?,
@@ -434,7 +437,7 @@ fn is_written(alloc: Global, case: &Written) -> Result<bool, OutOfMemory> {
     )?;
     let mut out = MemorySink::new(alloc, numbers(alloc, case.puts)?, 10);
     let words = words(alloc, case.words)?;
-    let code = run(alloc, words.as_slice(), &mut shelf, &mut out);
+    let code = run(rt, alloc, words.as_slice(), &mut shelf, &mut out, &OpenGate);
     Ok(
         code == case.status
             && shelf.file(&text(alloc, b"c")?) == case.cert
@@ -443,9 +446,9 @@ fn is_written(alloc: Global, case: &Written) -> Result<bool, OutOfMemory> {
 }
 
 /// The number of the first run that ends otherwise.
-fn first_other_files(alloc: Global, cases: &[Written]) -> Result<Option<usize>, OutOfMemory> {
+fn first_other_files<R: Host>(rt: &R, cases: &[Written]) -> Result<Option<usize>, OutOfMemory> {
     for i in 0..cases.len() {
-        if !is_written(alloc, &cases[i])? {
+        if !is_written(rt, &cases[i])? {
             return Ok(Some(i));
         }
     }
@@ -454,6 +457,6 @@ fn first_other_files(alloc: Global, cases: &[Written]) -> Result<Option<usize>, 
 
 #[test]
 fn certificates_are_written(rt: HostRuntime) -> Result<(), Fail> {
-    assert_eq!(rt; first_other_files(rt.alloc(), &WRITTEN)?, None);
+    assert_eq!(rt; first_other_files(&rt, &WRITTEN)?, None);
     Ok(())
 }

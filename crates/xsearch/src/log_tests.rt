@@ -1,8 +1,9 @@
 use crate::run;
-use crate::tests::{HALVES, ONE, has, numbers, prints, text, words};
+use crate::tests::{HALVES, Host, ONE, has, numbers, prints, text, words};
 use ip_core::{List, OutOfMemory, Text};
 use std::alloc::Global;
 use std::test::Fail;
+use task_crew::OpenGate;
 use xsearch_words::{MemoryShelf, MemorySink, SureShelf, SureSink};
 
 /// Words over a file `m`, a shelf and a sink of which these calls fail, each after ten bytes, the
@@ -96,12 +97,13 @@ const BROKEN: [Broken; 7] = [
 ];
 
 /// Whether a run over one column ends as is told.
-fn ends_so(alloc: Global, case: &Broken) -> Result<bool, OutOfMemory> {
+fn ends_so<R: Host>(rt: &R, case: &Broken) -> Result<bool, OutOfMemory> {
+    let alloc = rt.alloc();
     let mut shelf = MemoryShelf::new(alloc, numbers(alloc, case.shelf_calls)?, 10);
     shelf.set(text(alloc, b"m")?, List::of(Vec::from_slice(alloc, ONE)?))?;
     let mut out = MemorySink::new(alloc, numbers(alloc, case.puts)?, 10);
     let words = words(alloc, case.words)?;
-    let code = run(alloc, words.as_slice(), &mut shelf, &mut out);
+    let code = run(rt, alloc, words.as_slice(), &mut shelf, &mut out, &OpenGate);
     let fault = shelf
         .last_fault()
         .map(|fault| (fault.write, fault.name.as_slice()));
@@ -115,9 +117,9 @@ fn ends_so(alloc: Global, case: &Broken) -> Result<bool, OutOfMemory> {
 }
 
 /// The number of the first case that ends otherwise.
-fn first_other_end(alloc: Global, cases: &[Broken]) -> Result<Option<usize>, OutOfMemory> {
+fn first_other_end<R: Host>(rt: &R, cases: &[Broken]) -> Result<Option<usize>, OutOfMemory> {
     for i in 0..cases.len() {
-        if !ends_so(alloc, &cases[i])? {
+        if !ends_so(rt, &cases[i])? {
             return Ok(Some(i));
         }
     }
@@ -126,7 +128,7 @@ fn first_other_end(alloc: Global, cases: &[Broken]) -> Result<Option<usize>, Out
 
 #[test]
 fn failing_calls(rt: HostRuntime) -> Result<(), Fail> {
-    assert_eq!(rt; first_other_end(rt.alloc(), &BROKEN)?, None);
+    assert_eq!(rt; first_other_end(&rt, &BROKEN)?, None);
     Ok(())
 }
 
@@ -220,21 +222,22 @@ status infeasible
 ";
 
 /// The exit status of a run over the file `m`, and the file `l` afterwards.
-fn log_after(alloc: Global, line: &str, model: &[u8]) -> Result<(u8, Text), OutOfMemory> {
+fn log_after<R: Host>(rt: &R, line: &str, model: &[u8]) -> Result<(u8, Text), OutOfMemory> {
+    let alloc = rt.alloc();
     let mut shelf = SureShelf::new(alloc);
     shelf.set(text(alloc, b"m")?, List::of(Vec::from_slice(alloc, model)?))?;
     let mut out = SureSink::new(alloc);
     let words = words(alloc, line)?;
-    let code = run(alloc, words.as_slice(), &mut shelf, &mut out);
+    let code = run(rt, alloc, words.as_slice(), &mut shelf, &mut out, &OpenGate);
     let log = shelf.file(&text(alloc, b"l")?).unwrap_or(b"");
     Ok((code, text(alloc, log)?))
 }
 
 /// The number of the first case whose log is another.
-fn first_other_log(alloc: Global, cases: &[Logged]) -> Result<Option<usize>, OutOfMemory> {
+fn first_other_log<R: Host>(rt: &R, cases: &[Logged]) -> Result<Option<usize>, OutOfMemory> {
     for i in 0..cases.len() {
         let case = &cases[i];
-        let (status, log) = log_after(alloc, case.words, case.model)?;
+        let (status, log) = log_after(rt, case.words, case.model)?;
         if status != case.status || log.as_slice() != case.log {
             return Ok(Some(i));
         }
@@ -244,7 +247,7 @@ fn first_other_log(alloc: Global, cases: &[Logged]) -> Result<Option<usize>, Out
 
 #[test]
 fn searches_are_logged(rt: HostRuntime) -> Result<(), Fail> {
-    assert_eq!(rt; first_other_log(rt.alloc(), &LOGGED)?, None);
+    assert_eq!(rt; first_other_log(&rt, &LOGGED)?, None);
     Ok(())
 }
 
@@ -255,7 +258,17 @@ fn a_missing_file(rt: HostRuntime) -> Result<(), Fail> {
     let words = words(alloc, "show m")?;
     let mut shelf = MemoryShelf::new(alloc, List::new(alloc), 0);
     let mut out = MemorySink::new(alloc, List::new(alloc), 0);
-    assert_eq!(rt; run(alloc, words.as_slice(), &mut shelf, &mut out), 6);
+    assert_eq!(rt;
+        run(
+            &rt,
+            alloc,
+            words.as_slice(),
+            &mut shelf,
+            &mut out,
+            &OpenGate
+        ),
+        6
+    );
     assert_eq!(rt; out.bytes().len(), 0);
     let fault = shelf
         .last_fault()
@@ -293,22 +306,23 @@ fn all_zero(alloc: Global, count: u32) -> Result<String, OutOfMemory> {
 }
 
 /// Whether the model of so many columns is answered so with a store of 64 words.
-fn is_stored_answer(
-    alloc: Global,
+fn is_stored_answer<R: Host>(
+    rt: &R,
     count: u32,
     status: u8,
     output: &[u8],
 ) -> Result<bool, OutOfMemory> {
+    let alloc = rt.alloc();
     let file = free_columns(alloc, count)?;
     let line = "solve m --tasks=1 --store=64";
-    prints(alloc, line, file.as_bytes(), status, output)
+    prints(rt, line, file.as_bytes(), status, output)
 }
 
 #[test]
 fn a_point_that_fits_the_store(rt: HostRuntime) -> Result<(), Fail> {
     let alloc = rt.alloc();
     let answer = all_zero(alloc, 45)?;
-    assert!(rt; is_stored_answer(alloc, 45, 0, answer.as_bytes())?);
+    assert!(rt; is_stored_answer(&rt, 45, 0, answer.as_bytes())?);
     Ok(())
 }
 
@@ -316,10 +330,10 @@ fn a_point_that_fits_the_store(rt: HostRuntime) -> Result<(), Fail> {
 fn a_point_too_long_for_the_store(rt: HostRuntime) -> Result<(), Fail> {
     let alloc = rt.alloc();
     let answer = b"status storelimit\nobjective none\n";
-    assert!(rt; is_stored_answer(alloc, 46, 4, answer)?);
+    assert!(rt; is_stored_answer(&rt, 46, 4, answer)?);
     let file = free_columns(alloc, 46)?;
     let line = "solve m --tasks=1 --store=64 --log=l";
-    let (_, log) = log_after(alloc, line, file.as_bytes())?;
+    let (_, log) = log_after(&rt, line, file.as_bytes())?;
     assert!(rt; has(log.as_slice(), b"\n0 0 start 0\n14 0 halt\nend 0 "));
     Ok(())
 }

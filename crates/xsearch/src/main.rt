@@ -27,10 +27,11 @@ pub use laws::accepted_files_are_told;
 pub use run::run;
 pub use sample::sample_command;
 pub use show::show_command;
-pub use solve::solve_alone;
+pub use solve::{solve_alone, solve_command};
 use std::process::ExitCode;
 use std::rt::Env;
 use std::{env, io};
+use task_crew::OpenGate;
 use xsearch_words::{FileShelf, StdoutSink};
 
 /// Runs the command line's words, after the program's name, over the system's files and the
@@ -44,7 +45,8 @@ fn main(rt: HostRuntime) -> ExitCode {
     };
     let mut shelf = FileShelf::new(rt);
     let mut out = StdoutSink::new(rt);
-    ExitCode::from(run(alloc, words.as_slice(), &mut shelf, &mut out))
+    let words = words.as_slice();
+    ExitCode::from(run(&rt, alloc, words, &mut shelf, &mut out, &OpenGate))
 }
 
 /// The words after the program's name. A word that isn't text is an error.
@@ -64,3 +66,5 @@ mod log_tests;
 mod sample_tests;
 #[cfg(test)]
 mod tests;
+#[cfg(test)]
+mod thread_tests;

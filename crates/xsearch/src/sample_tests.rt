@@ -1,8 +1,8 @@
 use crate::run;
-use crate::tests::{numbers, text, words};
+use crate::tests::{Host, numbers, text, words};
 use ip_core::{List, OutOfMemory};
-use std::alloc::Global;
 use std::test::Fail;
+use task_crew::OpenGate;
 use xsearch_words::{MemoryShelf, MemorySink, SureShelf, SureSink};
 
 /// Words, the exit status, and what is output.
@@ -47,18 +47,20 @@ const SUMMED: [Summed; 6] = [
 ];
 
 /// The exit status of a run over an empty shelf, with what it puts out.
-fn run_alone(alloc: Global, line: &str, out: &mut SureSink) -> Result<u8, OutOfMemory> {
+fn run_alone<R: Host>(rt: &R, line: &str, out: &mut SureSink) -> Result<u8, OutOfMemory> {
+    let alloc = rt.alloc();
     let mut shelf = SureShelf::new(alloc);
     let words = words(alloc, line)?;
-    Ok(run(alloc, words.as_slice(), &mut shelf, out))
+    Ok(run(rt, alloc, words.as_slice(), &mut shelf, out, &OpenGate))
 }
 
 /// The number of the first case that comes out otherwise.
-fn first_other_summary(alloc: Global, cases: &[Summed]) -> Result<Option<usize>, OutOfMemory> {
+fn first_other_summary<R: Host>(rt: &R, cases: &[Summed]) -> Result<Option<usize>, OutOfMemory> {
+    let alloc = rt.alloc();
     for i in 0..cases.len() {
         let case = &cases[i];
         let mut out = SureSink::new(alloc);
-        let code = run_alone(alloc, case.words, &mut out)?;
+        let code = run_alone(rt, case.words, &mut out)?;
         if code != case.status || out.bytes() != case.output {
             return Ok(Some(i));
         }
@@ -68,16 +70,17 @@ fn first_other_summary(alloc: Global, cases: &[Summed]) -> Result<Option<usize>,
 
 #[test]
 fn samples_are_summed_up(rt: HostRuntime) -> Result<(), Fail> {
-    assert_eq!(rt; first_other_summary(rt.alloc(), &SUMMED)?, None);
+    assert_eq!(rt; first_other_summary(&rt, &SUMMED)?, None);
     Ok(())
 }
 
 /// Whether two runs put the same bytes, which begin so, and end with this status.
-fn puts_twice(alloc: Global, line: &str, status: u8, begins: &[u8]) -> Result<bool, OutOfMemory> {
+fn puts_twice<R: Host>(rt: &R, line: &str, status: u8, begins: &[u8]) -> Result<bool, OutOfMemory> {
+    let alloc = rt.alloc();
     let mut first = SureSink::new(alloc);
     let mut second = SureSink::new(alloc);
-    let code = run_alone(alloc, line, &mut first)?;
-    let again = run_alone(alloc, line, &mut second)?;
+    let code = run_alone(rt, line, &mut first)?;
+    let again = run_alone(rt, line, &mut second)?;
     Ok(
         code == status
             && again == status
@@ -90,27 +93,28 @@ fn puts_twice(alloc: Global, line: &str, status: u8, begins: &[u8]) -> Result<bo
 fn one_sample_gives_one_summary(rt: HostRuntime) -> Result<(), Fail> {
     let begins = b"sample 1 status worklimit objective ";
     let line = "sample 1 --tasks=2 --work=1000000";
-    assert!(rt; puts_twice(rt.alloc(), line, 3, begins)?);
+    assert!(rt; puts_twice(&rt, line, 3, begins)?);
     Ok(())
 }
 
-/// No point is told, since one has 405 words. Each chunk tells 4 words at least, so that fifteen of
+/// No point is told, since one has 404 words. Each chunk tells 4 words at least, so that fifteen of
 /// them fill the store, and counts less than a twentieth of the limit on work.
 #[test]
 fn a_sample_that_fills_the_store(rt: HostRuntime) -> Result<(), Fail> {
     let begins = b"sample 1 status storelimit objective none entries ";
     let line = "sample 1 --tasks=1 --cuts=no --heuristics=no --store=64";
-    assert!(rt; puts_twice(rt.alloc(), line, 4, begins)?);
+    assert!(rt; puts_twice(&rt, line, 4, begins)?);
     Ok(())
 }
 
 /// Whether over a shelf and a sink whose first call fails a sample is searched without a fault of
 /// the shelf, and its put fails after ten bytes.
-fn fails_at_its_put(alloc: Global) -> Result<bool, OutOfMemory> {
+fn fails_at_its_put<R: Host>(rt: &R) -> Result<bool, OutOfMemory> {
+    let alloc = rt.alloc();
     let mut shelf = MemoryShelf::new(alloc, numbers(alloc, &[1])?, 10);
     let mut out = MemorySink::new(alloc, numbers(alloc, &[1])?, 10);
     let words = words(alloc, "sample 1 --work=0")?;
-    let code = run(alloc, words.as_slice(), &mut shelf, &mut out);
+    let code = run(rt, alloc, words.as_slice(), &mut shelf, &mut out, &OpenGate);
     Ok(
         code == 7
             && out.bytes() == b"sample 1 s".as_slice()
@@ -120,6 +124,6 @@ fn fails_at_its_put(alloc: Global) -> Result<bool, OutOfMemory> {
 
 #[test]
 fn a_sample_calls_no_shelf(rt: HostRuntime) -> Result<(), Fail> {
-    assert!(rt; fails_at_its_put(rt.alloc())?);
+    assert!(rt; fails_at_its_put(&rt)?);
     Ok(())
 }

@@ -2,12 +2,12 @@ ghost use Rattle.std.specs.Prelude.{◌≡◌, IfOk};
 ghost use Rattle.stamp_machine.specs.Limits.{AreLimits};
 ghost use Rattle.task_steps.specs.Truth.{IsHistory};
 ghost use Rattle.xsearch.specs.Answer.{HasOneEach};
-ghost use Rattle.xsearch.specs.Searches.{IsSearchAnswer, limits_of as limits_of_tune, machine_answer, machine_history, settings_of as settings_of_tune};
+ghost use Rattle.xsearch.specs.Searches.{CanPlay, IsSearchAnswer, PlaysMachine, limits_of as limits_of_tune, machine_answer, machine_history, settings_of as settings_of_tune};
 ghost use Rattle.xsearch_words.specs.Tunes.{IsTune};
 
 use ip_core::{Model, OutOfMemory};
 use node_pool::SearchSettings;
-use stamp_machine::{History, Limits, run_alone};
+use stamp_machine::{History, Limits};
 use std::alloc::Global;
 use task_steps::{Answer, Search, answer_of, answers_are_true, histories_are_read, limits_are_met};
 use tree_build::finished_searches_are_accepted;
@@ -21,10 +21,18 @@ pub struct EndedSearch {
     pub answer: Answer,
 }
 
-/// Lets the slots search a model.
+/// Searches a model. The call plays the slots of the search that it is given within the limits, and
+/// gives the search back with their history.
 #[tactic(auto, using(crate::proofs::TrueAnswers::one_each))]
-pub fn search_model(alloc: Global, model: Model, tune: &Tune) -> Result<EndedSearch, OutOfMemory>
-    requires { IsTune tune.now }
+pub fn search_model<F: Fn(Search, Limits) -> Result<(Search, History), OutOfMemory>>(
+    alloc: Global,
+    model: Model,
+    tune: &Tune,
+    play: &F,
+) -> Result<EndedSearch, OutOfMemory>
+    requires tune { IsTune tune.now }
+    requires can { CanPlay (F.pre play.now) }
+    requires plays { PlaysMachine (F.post play.now) }
     ensures model { IfOk result (λ ended. ended.search.model ≡ model) }
     ensures history { IfOk result (λ ended. ended.history ≡ machine_history model tune.now) }
     ensures read { IfOk result (λ ended. IsHistory model ended.history.entries) }
@@ -35,11 +43,11 @@ pub fn search_model(alloc: Global, model: Model, tune: &Tune) -> Result<EndedSea
 {
     let search = Search::new(model, settings_of(tune));
     let limits = limits_of(tune);
-    let history = run_alone(alloc, &search, &limits)?;
     histories_are_read(&search, &limits);
     answers_are_true(&search, &limits);
     limits_are_met(&search, &limits);
     finished_searches_are_accepted(&search, &limits);
+    let (search, history) = play(search, limits)?;
     let answer = answer_of(alloc, search.model(), &history)?;
     Ok(EndedSearch {
         search,

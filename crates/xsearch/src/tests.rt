@@ -1,7 +1,10 @@
 use crate::run;
 use ip_core::{List, OutOfMemory, Text};
 use std::alloc::Global;
+use std::sync::Wait;
 use std::test::Fail;
+use std::thread::Threads;
+use task_crew::OpenGate;
 use xsearch_words::{SureShelf, SureSink};
 
 /// One column, one cost.
@@ -21,7 +24,7 @@ const ONE_REPEATED: &[u8] =
 const ONE_SHIFTED: &[u8] =
     b"NAME one\nROWS\n N c\nCOLUMNS\n M 'MARKER' 'INTORG'\n x c 1\nRHS\n r c 10\nBOUNDS\n UP b x 1\nENDATA\n";
 
-const THREE: &[u8] =
+pub(crate) const THREE: &[u8] =
     b"NAME three\nROWS\n N c\n L a\n L b\n L d\nCOLUMNS\n M 'MARKER' 'INTORG'\n x c -5 a 2\n x b 4 d 3\n y c -4 a 3\n y b 1 d 4\n z c -3 a 1\n z b 2 d 2\n M 'MARKER' 'INTEND'\nRHS\n r a 5 b 11\n r d 8\nBOUNDS\n UP k x 3\n UP k y 3\n UP k z 3\nENDATA\n";
 
 /// 2x = 3 in whole numbers.
@@ -87,6 +90,11 @@ const FIVE: &[u8] =
 const SIX_MAX: &[u8] =
     b"NAME sixmax\nOBJSENSE\n MAX\nROWS\n N c\n E a0\n G a1\nCOLUMNS\n p c 7\n p a0 6\n p a1 2\n q c 5\n q a0 4\n q a1 5\n r c -2\n r a0 7\n r a1 5\n s c 3\n s a0 -3\n t c 3\n t a0 1\n t a1 3\n u c 8\n u a0 2\nRHS\n R a0 12\n R a1 14\nBOUNDS\n LI B p 0\n UI B p 2\n LI B q 0\n UI B q 2\n LI B r 0\n UI B r 2\n LI B s 0\n UI B s 2\n LI B t 0\n UI B t 2\n LI B u 0\n UI B u 2\nENDATA\n";
 
+/// What a run wants of the system: memory, threads, and to wait for them.
+pub(crate) trait Host: AllocGlobal + Threads + Wait + Sync {}
+
+impl<R: AllocGlobal + Threads + Wait + Sync> Host for R {}
+
 /// Words over a file `m`, the exit status, and what is output.
 struct Case {
     words: &'static str,
@@ -112,36 +120,38 @@ pub(crate) fn words(alloc: Global, line: &str) -> Result<Vec<String>, OutOfMemor
 }
 
 /// The exit status of a run over the file `m`, with what it puts out.
-fn run_over(
-    alloc: Global,
+fn run_over<R: Host>(
+    rt: &R,
     line: &str,
     model: &[u8],
     out: &mut SureSink,
 ) -> Result<u8, OutOfMemory> {
+    let alloc = rt.alloc();
     let mut shelf = SureShelf::new(alloc);
     shelf.set(text(alloc, b"m")?, List::of(Vec::from_slice(alloc, model)?))?;
     let words = words(alloc, line)?;
-    Ok(run(alloc, words.as_slice(), &mut shelf, out))
+    Ok(run(rt, alloc, words.as_slice(), &mut shelf, out, &OpenGate))
 }
 
 /// Whether a run over the file `m` ends with this status and prints this.
-pub(crate) fn prints(
-    alloc: Global,
+pub(crate) fn prints<R: Host>(
+    rt: &R,
     line: &str,
     model: &[u8],
     status: u8,
     output: &[u8],
 ) -> Result<bool, OutOfMemory> {
+    let alloc = rt.alloc();
     let mut out = SureSink::new(alloc);
-    let code = run_over(alloc, line, model, &mut out)?;
+    let code = run_over(rt, line, model, &mut out)?;
     Ok(code == status && out.bytes() == output)
 }
 
 /// The number of the first case that comes out otherwise.
-fn first_failure(alloc: Global, cases: &[Case]) -> Result<Option<usize>, OutOfMemory> {
+fn first_failure<R: Host>(rt: &R, cases: &[Case]) -> Result<Option<usize>, OutOfMemory> {
     for i in 0..cases.len() {
         let case = &cases[i];
-        if !prints(alloc, case.words, case.model, case.status, case.output)? {
+        if !prints(rt, case.words, case.model, case.status, case.output)? {
             return Ok(Some(i));
         }
     }
@@ -311,7 +321,7 @@ const CASES: [Case; 26] = [
 
 #[test]
 fn answers_and_refusals(rt: HostRuntime) -> Result<(), Fail> {
-    assert_eq!(rt; first_failure(rt.alloc(), &CASES)?, None);
+    assert_eq!(rt; first_failure(&rt, &CASES)?, None);
     Ok(())
 }
 
@@ -345,12 +355,12 @@ const DRESSINGS: [&[u8]; 10] = [
 ];
 
 /// The number of the first dressing that isn't shown or answered as the others.
-fn first_other(alloc: Global, models: &[&[u8]]) -> Result<Option<usize>, OutOfMemory> {
+fn first_other<R: Host>(rt: &R, models: &[&[u8]]) -> Result<Option<usize>, OutOfMemory> {
     for i in 0..models.len() {
-        if !prints(alloc, "show m", models[i], 0, DRESSED_SHOWN)? {
+        if !prints(rt, "show m", models[i], 0, DRESSED_SHOWN)? {
             return Ok(Some(i));
         }
-        if !prints(alloc, "solve m", models[i], 0, DRESSED_ANSWER)? {
+        if !prints(rt, "solve m", models[i], 0, DRESSED_ANSWER)? {
             return Ok(Some(i));
         }
     }
@@ -359,21 +369,22 @@ fn first_other(alloc: Global, models: &[&[u8]]) -> Result<Option<usize>, OutOfMe
 
 #[test]
 fn one_model_in_many_dressings(rt: HostRuntime) -> Result<(), Fail> {
-    assert_eq!(rt; first_other(rt.alloc(), &DRESSINGS)?, None);
+    assert_eq!(rt; first_other(&rt, &DRESSINGS)?, None);
     Ok(())
 }
 
 /// Whether a file of so many bytes is answered so.
-fn is_length_answer(alloc: Global, len: usize, output: &[u8]) -> Result<bool, OutOfMemory> {
+fn is_length_answer<R: Host>(rt: &R, len: usize, output: &[u8]) -> Result<bool, OutOfMemory> {
+    let alloc = rt.alloc();
     let model = vec![in alloc; b'x'; len]?;
-    prints(alloc, "solve m", model.as_slice(), 5, output)
+    prints(rt, "solve m", model.as_slice(), 5, output)
 }
 
 #[test]
 fn a_file_too_long(rt: HostRuntime) -> Result<(), Fail> {
     let alloc = rt.alloc();
-    assert!(rt; is_length_answer(alloc, 16_777_216, b"refused mps line 1 kind 3\n")?);
-    assert!(rt; is_length_answer(alloc, 16_777_217, b"refused length\n")?);
+    assert!(rt; is_length_answer(&rt, 16_777_216, b"refused mps line 1 kind 3\n")?);
+    assert!(rt; is_length_answer(&rt, 16_777_217, b"refused length\n")?);
     Ok(())
 }
 
@@ -388,17 +399,18 @@ pub(crate) fn has(text: &[u8], piece: &[u8]) -> bool {
 }
 
 /// Whether `gen 1` ends with status 0 and puts this piece.
-fn generates(alloc: Global, piece: &[u8]) -> Result<bool, OutOfMemory> {
+fn generates<R: Host>(rt: &R, piece: &[u8]) -> Result<bool, OutOfMemory> {
+    let alloc = rt.alloc();
     let mut shelf = SureShelf::new(alloc);
     let mut out = SureSink::new(alloc);
     let words = words(alloc, "gen 1")?;
-    let code = run(alloc, words.as_slice(), &mut shelf, &mut out);
+    let code = run(rt, alloc, words.as_slice(), &mut shelf, &mut out, &OpenGate);
     Ok(code == 0 && has(out.bytes(), piece))
 }
 
 #[test]
 fn a_sample_model(rt: HostRuntime) -> Result<(), Fail> {
-    assert!(rt; generates(rt.alloc(), b"\nBOUNDS\n UP BND C0 3\n")?);
+    assert!(rt; generates(&rt, b"\nBOUNDS\n UP BND C0 3\n")?);
     Ok(())
 }
 
@@ -476,15 +488,16 @@ const SOLVED: [Solved; 16] = [
 ];
 
 /// The number of the first model that these words don't solve.
-fn first_unsolved(
-    alloc: Global,
+fn first_unsolved<R: Host>(
+    rt: &R,
     line: &str,
     models: &[Solved],
 ) -> Result<Option<usize>, OutOfMemory> {
+    let alloc = rt.alloc();
     for i in 0..models.len() {
         let solved = &models[i];
         let mut out = SureSink::new(alloc);
-        let code = run_over(alloc, line, solved.model, &mut out)?;
+        let code = run_over(rt, line, solved.model, &mut out)?;
         if code != 0 || !out.bytes().starts_with(solved.begins) {
             return Ok(Some(i));
         }
@@ -494,24 +507,24 @@ fn first_unsolved(
 
 /// Words by which each of these models is solved.
 const SOLVING: [&str; 12] = [
-    "solve m --default-upper=9 --tasks=1",
-    "solve m --default-upper=9 --tasks=1 --cuts=no",
-    "solve m --default-upper=9 --tasks=2 --cuts=no",
-    "solve m --default-upper=9 --tasks=3 --cuts=yes",
-    "solve m --default-upper=9 --tasks=5",
+    "solve m --default-upper=9 --store=16384 --tasks=1",
+    "solve m --default-upper=9 --store=16384 --tasks=1 --cuts=no",
+    "solve m --default-upper=9 --store=16384 --tasks=2 --cuts=no",
+    "solve m --default-upper=9 --store=16384 --tasks=3 --cuts=yes",
+    "solve m --default-upper=9 --store=16384 --tasks=5",
     "alone m --default-upper=9 --tasks=9 --cuts=no",
     "alone m --default-upper=9 --tasks=64",
     "alone m --default-upper=9 --tasks=64 --cuts=no",
-    "solve m --default-upper=9 --tasks=1 --heuristics=no",
-    "solve m --default-upper=9 --tasks=1 --cuts=no --heuristics=no",
+    "solve m --default-upper=9 --store=16384 --tasks=1 --heuristics=no",
+    "solve m --default-upper=9 --store=16384 --tasks=1 --cuts=no --heuristics=no",
     "alone m --default-upper=9 --tasks=4 --heuristics=yes",
-    "solve m --default-upper=9 --tasks=7 --cuts=no --heuristics=no",
+    "solve m --default-upper=9 --store=16384 --tasks=7 --cuts=no --heuristics=no",
 ];
 
 #[test]
 fn one_objective_with_all_numbers_of_tasks(rt: HostRuntime) -> Result<(), Fail> {
     for line in SOLVING {
-        assert_eq!(rt; first_unsolved(rt.alloc(), line, &SOLVED)?, None);
+        assert_eq!(rt; first_unsolved(&rt, line, &SOLVED)?, None);
     }
     Ok(())
 }

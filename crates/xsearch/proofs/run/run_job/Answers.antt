@@ -5,10 +5,10 @@ use Rattle.xsearch.proofs.Running.{weaker}
 use Rattle.xsearch.proofs.run.run_job.Goals as goal
 
 pub returns-in-Solve-clause-cause : goal.returns-in-Solve-clause-cause
-returns-in-Solve-clause-cause g c = rw c.in-Solve.is c.solve_alone.ensures
+returns-in-Solve-clause-cause g c = rw c.in-Solve.is c.solve_command.ensures
 
 pub returns-in-Alone-clause-cause : goal.returns-in-Alone-clause-cause
-returns-in-Alone-clause-cause g c = rw c.in-Alone.is c.solve_alone-in-Alone.ensures
+returns-in-Alone-clause-cause g c = rw c.in-Alone.is c.solve_alone.ensures
 
 pub returns-in-Gen-clause-cause : goal.returns-in-Gen-clause-cause
 returns-in-Gen-clause-cause g c =
@@ -20,8 +20,8 @@ returns-in-Sample-clause-cause g c =
 
 pub returns-in-Solve-clause-accepted : goal.returns-in-Solve-clause-accepted
 returns-in-Solve-clause-accepted g c =
-    rw c.in-Solve.is (accepted_if_named _ _ _ _ _ _ (subst IsJob c.in-Solve.is c.requires).apart c.solve_alone.ensures)
+    rw c.in-Solve.is (accepted_if_named _ _ _ _ _ _ (subst IsJob c.in-Solve.is c.requires).apart c.solve_command.ensures)
 
 pub returns-in-Alone-clause-accepted : goal.returns-in-Alone-clause-accepted
 returns-in-Alone-clause-accepted g c =
-    rw c.in-Alone.is (accepted_if_named _ _ _ _ _ _ (subst IsJob c.in-Alone.is c.requires).apart c.solve_alone-in-Alone.ensures)
+    rw c.in-Alone.is (accepted_if_named _ _ _ _ _ _ (subst IsJob c.in-Alone.is c.requires).apart c.solve_alone.ensures)

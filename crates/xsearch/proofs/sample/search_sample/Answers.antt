@@ -4,7 +4,7 @@ use Rattle.xsearch.proofs.TrueAnswers.{true_of_file}
 use Rattle.xsearch.proofs.sample.search_sample.Goals as goal
 
 pub returns-in-Ok-summary : goal.returns-in-Ok-summary
-returns-in-Ok-summary c = Sampled (record {
+returns-in-Ok-summary g c = Sampled (record {
   m = c.in-Ok.model;
   answer = _;
   output = c.in-Ok-summary.output;

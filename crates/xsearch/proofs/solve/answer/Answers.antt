@@ -9,7 +9,7 @@ use Rattle.xsearch.specs.Writes.{solve_files}
 use Rattle.xsearch.proofs.solve.answer.Goals as goal
 
 pub returns : goal.returns
-returns c =
+returns g c =
     let ended = c.in_ok-ended.ensures in
     let first = c.model.ensures ∙ ended.model in
     let second = c.model-2.ensures ∙ ended.model in

@@ -4,7 +4,7 @@ use Rattle.xsearch.proofs.TrueAnswers.{true_of_file}
 use Rattle.xsearch.proofs.solve.solve_model.Goals as goal
 
 pub returns-in-Ok-answer : goal.returns-in-Ok-answer
-returns-in-Ok-answer c = Solved (record {
+returns-in-Ok-answer g c = Solved (record {
   m = c.in-Ok.model;
   answer = _;
   output = c.in-Ok-answer.output;

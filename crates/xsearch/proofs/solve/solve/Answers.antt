@@ -1,5 +1,5 @@
 use Rattle.xsearch.proofs.Running.{with_cause}
-use Rattle.xsearch.proofs.solve.solve_alone.Goals as goal
+use Rattle.xsearch.proofs.solve.solve.Goals as goal
 
 pub returns : goal.returns
 returns g c = with_cause _ c.write_files-ended.result _ _ _ (record {
