@@ -23,7 +23,7 @@ const UNIT: DenseModel<'static> = DenseModel {
 };
 
 /// 2x + 2y + 2z = 3 in 0 to 1, without costs.
-const ODD: DenseModel<'static> = DenseModel {
+pub(crate) const ODD: DenseModel<'static> = DenseModel {
     costs: &[0, 0, 0],
     lows: &[0, 0, 0],
     highs: &[1, 1, 1],
@@ -91,7 +91,7 @@ const SHIFTS: DenseModel<'static> = DenseModel {
 };
 
 /// The search of a model in plain numbers, with cuts and dives.
-fn search_of(alloc: Global, dense: &DenseModel) -> Result<Search, Fail> {
+pub(crate) fn search_of(alloc: Global, dense: &DenseModel) -> Result<Search, Fail> {
     let model = dense.build(alloc)?.ok_or("a model")?;
     let settings = SearchSettings {
         cuts: true,

@@ -1,8 +1,8 @@
 -- What an advance leaves of a carrier's state, by its answer.
-use Rattle.std.proofs.Common.{◌≡◌, true, false, Bool, not, Ok, Err, Result, Some, sym, ap, ◌∙◌, subst, IfOk}
+use Rattle.std.proofs.Common.{◌≡◌, true, not, Result, sym, ap, ◌∙◌, subst, IfOk}
 use Rattle.ip_core.specs.declared.memory.OutOfMemory.{OutOfMemory}
 use Rattle.work_stamp.specs.Taskers.{Rules}
-use Rattle.version_store.specs.Advances.{HasAdvanced, Moves, Ends, Waits, Breaks, IsSameRun, lives, lives_while_whole, ended_while_whole, has_ended, has_live}
+use Rattle.version_store.specs.Advances.{HasAdvanced, Moves, Ends, Waits, Breaks, IsSameRun, lives, lives_while_whole, ended_while_whole, has_live}
 use Rattle.version_store.specs.Carriers.{CarrierView}
 use Rattle.version_store.specs.declared.advance.Advance.{Advance}
 use Rattle.task_crew.specs.Crews.{IsAfterMove, run_of}

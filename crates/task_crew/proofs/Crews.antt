@@ -1,6 +1,6 @@
 -- What the steps of a worker leave of its pass and of the carriers that it keeps.
-use Rattle.std.proofs.Common.{◌≡◌, ℕ, zero, suc, ◌+◌, ◌-◌, ◌<◌, ◌≤◌, nat_eq, if◌then◌else◌, List, [], ◌∷◌, ◌++◌, drop, length, map, sym, refl, ap, ◌∙◌, subst, Bool, true, false, nat_lt, length-append, ◌||◌, Option, Some, None, MatchOption, IfSome, IfNone, Result, Ok, Err, MatchResult, is_some, true≢false, arith}
-use Rattle.std.specs.Prelude.{⊤}
+use Rattle.std.proofs.Common.{◌≡◌, ℕ, zero, suc, ◌+◌, ◌<◌, nat_eq, if◌then◌else◌, List, [], ◌∷◌, ◌++◌, length, map, sym, refl, ap, ◌∙◌, subst, Bool, true, false, length-append, ◌||◌, Option, Some, None, MatchOption, IfSome, IfNone, Result, Ok, Err, MatchResult, is_ok, is_some, true≢false, arith}
+use Rattle.std.specs.Prelude.{remove, slice_index_or, ⊤}
 use Rattle.clock_words.specs.Seats.{BoardView, SeatView, new_seat}
 use Rattle.stamp_machine.specs.declared.limits.Limits.{Limits}
 use Rattle.std.proofs.lemmas.Bool.Decides.{nat_tests}
@@ -10,15 +10,15 @@ use Rattle.stamp_machine.specs.Limits.{AreLimits}
 use Rattle.stamp_machine.specs.Orders.{Each}
 use Rattle.version_store.specs.Advances.{has_ended, lives}
 use Rattle.version_store.specs.Carriers.{CarrierView}
-use Rattle.version_store.specs.Gathers.{AreEnded, HasSlot, IsAtEnd}
+use Rattle.version_store.specs.Gathers.{AreEnded}
 use Rattle.task_crew.specs.declared.hand.Hand.{Hand}
-use Rattle.task_crew.specs.declared.worker.After.{After}
 use Rattle.task_crew.specs.declared.worker.End.{End}
 use Rattle.task_crew.specs.declared.worker.End.TheVariants.{Empty, Stopped}
-use Rattle.task_crew.specs.declared.worker.After.TheVariants.{Over}
+use Rattle.task_crew.specs.declared.worker.Next.{Next}
+use Rattle.task_crew.specs.declared.worker.Next.TheVariants.{Served, Idle, Ends}
 use Rattle.task_crew.specs.Hands.{times, once_below, hand, run_of_first, filled, both, spent, kept_part, other_parts, IsInRun}
-use Rattle.task_crew.specs.Crews.{RunView, HoldsAll, run_of, run_on, slot_of, Lives, AreKept, HasEntered, HasLeft, HasReturned, HasRoom, HasAll, IsWorker, AreHeld, IsServed, IsAfterTurn, AreOver, IsOverAll, WhenEmpty, end_of}
-use Rattle.task_crew.proofs.Hands.{all_with, enters, few, forks, leaves, merges, returns, times_append}
+use Rattle.task_crew.specs.Crews.{RunView, HoldsAll, run_of, run_on, slot_of, Lives, AreKept, HasEntered, HasLeft, HasReturned, HasRoom, HasAll, IsWorker, AreHeld, IsLiving, IsAtWork, IsServing, AreOver, IsOverAll, WhenEmpty, WhenGoesOn, WhenOver, end_of}
+use Rattle.task_crew.proofs.Hands.{all_with, enters, few, forks, leaves, length_without, merges, returns, times_append, times_without}
 
 abbrev some_of : {A : Type 0} → A → Option A → A
 some_of d None = d
@@ -31,6 +31,10 @@ none_left : {A : Type 0} (xs : List A) → length xs ≡ 0 → xs ≡ []
 none_left [] e = refl
 none_left (x ∷ xs) e = absurd (omega (arith, e))
 
+-- an empty list, by the test of its length
+pub none_if_empty : {A : Type 0} (xs : List A) (test : Bool) → test ≡ nat_eq (length xs) 0 → test ≡ true → xs ≡ []
+none_if_empty xs test is holds = none_left xs (grind (arith, nat_tests, is, holds))
+
 run_there : {R : Type 0} (run : R) (count : ℕ) → 0 < count → run_of_first run count ≡ Some run
 run_there run zero some_one = absurd (omega (arith, some_one))
 run_there run (suc count) some_one = refl
@@ -41,6 +45,27 @@ once_there number count below = grind (arith, nat_tests)
 either_there : (b rest : Bool) (n : ℕ) → (0 < n → rest ≡ true) → 0 < (if b then 1 else 0) + n → b || rest ≡ true
 either_there true rest n more there = refl
 either_there false rest n more there = more (omega (arith, there))
+
+one_or_more : (n rest total : ℕ) → total ≡ (if nat_eq n n then 1 else 0) + rest → 0 < total
+one_or_more n rest total is = grind (arith, nat_tests, is)
+
+-- what holds is so where a worker returns that found the queue empty, too
+pub when_over : {P : Type 0} (next : Next) → P → WhenOver next P
+when_over Served p = tt
+when_over Idle p = tt
+when_over (Ends Stopped) p = tt
+when_over (Ends Empty) p = p
+
+-- what holds is so where a worker goes on, too
+pub when_goes_on : {P : Type 0} (next : Next) → P → WhenGoesOn next P
+when_goes_on Served p = p
+when_goes_on Idle p = p
+when_goes_on (Ends end) p = tt
+
+-- what holds where nothing was found
+pub if_none : {A P : Type 0} (x : Option A) → x ≡ None → IfNone x P → P
+if_none None is p = p
+if_none (Some y) is p = absurd (true≢false (ap is_some is))
 
 module _ {T : Type 0} where
   -- two workers as one
@@ -73,19 +98,32 @@ module _ {T V L : Type 0} where
   over_append run [] ys over more = more
   over_append run (x ∷ xs) ys over more = (over.0, over_append run xs ys over.1 more)
 
-  -- a pass after a carrier was taken out
-  pub worker_left : (run : RunView T) (v w : Hand (RunView T)) (c : CarrierView T V L) → IsWorker run v → HasLeft v c w → IsWorker run w
-  worker_left run v w c is left = subst (IsWorker run) (sym left.0) (record { part = is.part; same = is.same; count = is.count })
+  living_append : (run : RunView T) (xs ys : List (CarrierView T V L)) → Each (IsLiving run) xs → Each (IsLiving run) ys →
+      Each (IsLiving run) (xs ++ ys)
+  living_append run [] ys are more = more
+  living_append run (x ∷ xs) ys are more = (are.0, living_append run xs ys are.1 more)
 
-  pub served : (run : RunView T) (v w : Hand (RunView T)) (kept : List (CarrierView T V L)) (c : CarrierView T V L) →
-      IsWorker run v → AreHeld v.holds kept → HasLeft v c w → IsServed run w kept c
-  served run v w kept c is held left = subst (λ u. IsServed run u kept c) (sym left.0)
-      (record { of_run = same_some (sym left.1.same ∙ is.same); first = refl; held = held })
+  -- a worker serves a carrier that was taken out
+  pub serving_left : (run : RunView T) (v w : Hand (RunView T)) (kept waiting : List (CarrierView T V L)) (c : CarrierView T V L) →
+      IsAtWork run v kept waiting → HasLeft v c w → IsServing run w kept waiting c
+  serving_left run v w kept waiting c is left = subst (λ u. IsServing run u kept waiting c) (sym left.0) (record {
+    worker = record { part = is.worker.part; same = is.worker.same; count = is.worker.count };
+    held = record { each = λ slot. omega (arith, is.held.each slot); size = omega (arith, is.held.size) };
+    over = is.over;
+    living = is.living;
+    served = record { of_run = same_some (sym left.1.same ∙ is.worker.same); lives = left.1.lives };
+  })
 
   -- a carrier that is served is one of the queue's run
-  pub in_run : (run : RunView T) (v : Hand (RunView T)) (kept : List (CarrierView T V L)) (c : CarrierView T V L) →
-      IsWorker run v → IsServed run v kept c → lives c ≡ true → IsInRun slot_of run_of Lives v.run c
-  in_run run v kept c is s live = record { same = is.same ∙ ap Some (sym s.of_run); lives = live }
+  in_run : (run : RunView T) (v : Hand (RunView T)) (kept waiting : List (CarrierView T V L)) (c : CarrierView T V L) →
+      IsServing run v kept waiting c → IsInRun slot_of run_of Lives v.run c
+  in_run run v kept waiting c s = record { same = s.worker.same ∙ ap Some (sym s.served.of_run); lives = s.served.lives }
+
+  -- its slot is with the pass
+  stands : (run : RunView T) (v : Hand (RunView T)) (kept waiting : List (CarrierView T V L)) (c : CarrierView T V L) →
+      IsServing run v kept waiting c → 0 < times (slot_of c) v.holds
+  stands run v kept waiting c s = one_or_more (slot_of c) (times (slot_of c) (map slot_of (kept ++ waiting)))
+      (times (slot_of c) v.holds) (s.held.each (slot_of c))
 
   -- what the steps on the queue owe
   pub may_enter : (n pass : ℕ) (v : Hand (RunView T)) (c : CarrierView T V L) → v ≡ filled (run_of c) (slot_of c) → lives c ≡ true →
@@ -97,11 +135,13 @@ module _ {T V L : Type 0} where
       Pops AreKept pass v (HasLeft {T = T} {V = V} {L = L} v) × Learns (AreKept {T = T} {V = V} {L = L}) pass v (HasAll v)
   may_leave pass run v is = (leaves slot_of run_of Lives pass v is.part, all_with slot_of run_of Lives pass v)
 
-  pub may_return : (n pass : ℕ) (run : RunView T) (v : Hand (RunView T)) (kept : List (CarrierView T V L)) (c : CarrierView T V L) →
-      IsWorker run v → IsServed run v kept c → lives c ≡ true →
+  pub may_return : (n pass : ℕ) (run : RunView T) (v : Hand (RunView T)) (kept waiting : List (CarrierView T V L)) (c : CarrierView T V L) →
+      IsServing run v kept waiting c →
       Pushes AreKept n pass v c (HasReturned v c) × Learns (AreKept {T = T} {V = V} {L = L}) pass v (HasRoom v)
-  may_return n pass run v kept c is s live =
-      (returns slot_of run_of Lives n pass v c (drop 1 v.holds) is.part s.first (in_run run v kept c is s live), few slot_of run_of Lives pass v is.part)
+  may_return n pass run v kept waiting c s = (
+    returns slot_of run_of Lives n pass v c s.worker.part (stands run v kept waiting c s) (in_run run v kept waiting c s),
+    few slot_of run_of Lives pass v s.worker.part,
+  )
 
   pub may_share : (pass : ℕ) (v : Hand (RunView T)) → 1 < v.parts → Forks (AreKept {T = T} {V = V} {L = L}) pass v (kept_part v) (other_parts v)
   may_share pass v parts = forks slot_of run_of Lives pass v parts
@@ -151,35 +191,120 @@ module _ {T V L : Type 0} where
       absurd (omega (arith, held.1, held.2, count, below))
 
   -- after the carrier was put back
-  pub worker_returned : (run : RunView T) (v w : Hand (RunView T)) (c : CarrierView T V L) → IsWorker run v → HasReturned v c w → IsWorker run w
-  worker_returned run v w c is back = subst (IsWorker run) (sym back) (record { part = is.part; same = is.same; count = is.count })
+  pub work_returned : (run : RunView T) (v w : Hand (RunView T)) (kept waiting : List (CarrierView T V L)) (c : CarrierView T V L) →
+      IsServing run v kept waiting c → HasReturned v c w → IsAtWork run w kept waiting
+  work_returned run v w kept waiting c s back = subst (λ u. IsAtWork run u kept waiting) (sym back) (record {
+    worker = record { part = s.worker.part; same = s.worker.same; count = s.worker.count };
+    held = record {
+      each = λ slot. omega (arith, s.held.each slot, times_without (slot_of c) slot v.holds (stands run v kept waiting c s));
+      size = omega (arith, s.held.size, length_without (slot_of c) v.holds (stands run v kept waiting c s));
+    };
+    over = s.over;
+    living = s.living;
+  })
 
-  pub held_returned : (run : RunView T) (v w : Hand (RunView T)) (kept : List (CarrierView T V L)) (c : CarrierView T V L) →
-      IsServed run v kept c → HasReturned v c w → AreHeld w.holds kept
-  held_returned run v w kept c s back = subst (λ (u : Hand (RunView T)). AreHeld u.holds kept) (sym back) s.held
+  pub work_pushed : (size : ℕ) (run : RunView T) (v w : Hand (RunView T)) (kept waiting : List (CarrierView T V L)) (c : CarrierView T V L)
+      (result : Result ⊤ (CarrierView T V L)) (done : ⊤) → IsServing run v kept waiting c → result ≡ Ok done →
+      MatchResult result (λ _. HasReturned v c w) (λ x. (x ≡ c) × (w ≡ v) × Held size (HasRoom {T = T} {V = V} {L = L} v)) →
+      IsAtWork run w kept waiting
+  work_pushed size run v w kept waiting c (Ok u) done s is rule = work_returned run v w kept waiting c s rule
+  work_pushed size run v w kept waiting c (Err x) done s is rule = absurd (true≢false (sym (ap is_ok is)))
 
-  -- another state of the carrier is served as well
-  pub served_after : (run : RunView T) (v : Hand (RunView T)) (kept : List (CarrierView T V L)) (c d : CarrierView T V L) →
-      IsServed run v kept c → run_of d ≡ run_of c → slot_of d ≡ slot_of c → IsServed run v kept d
-  served_after run v kept c d s same slot =
-      record { of_run = same ∙ s.of_run; first = s.first ∙ ap (λ k. k ∷ drop 1 v.holds) (sym slot); held = s.held }
+  -- the carriers of the same slots
+  held_with : (slots : List ℕ) (rest : List (CarrierView T V L)) (c d : CarrierView T V L) → AreHeld slots (c ∷ rest) → slot_of d ≡ slot_of c →
+      AreHeld slots (d ∷ rest)
+  held_with slots rest c d held slot = record {
+    each = λ k. omega (arith, held.each k, ap (λ n. times k (n ∷ [])) slot);
+    size = held.size;
+  }
 
-  -- the carrier of an item
-  pub served_as : (run : RunView T) (v : Hand (RunView T)) (kept : List (CarrierView T V L)) (c d : CarrierView T V L) →
-      IsServed run v kept c → d ≡ c → IsServed run v kept d
-  served_as run v kept c d s same = subst (λ (x : CarrierView T V L). IsServed run v kept x) (sym same) s
+  -- another state of the carrier is served as well, of a pass that holds the same
+  pub serving_item : (run : RunView T) (v : Hand (RunView T)) (kept all waiting : List (CarrierView T V L)) (c b d i : CarrierView T V L) →
+      IsServing run v kept waiting c → b ≡ c → run_of d ≡ run_of b → slot_of d ≡ slot_of b → lives d ≡ true →
+      all ≡ kept → i ≡ d → IsServing run v all waiting i
+  serving_item run v kept all waiting c b d i s is same slot live more made =
+      subst (λ l. IsServing run v l waiting i) (sym more) (subst (IsServing run v kept waiting) (sym made) (record {
+        worker = s.worker;
+        held = held_with v.holds (kept ++ waiting) c d s.held (slot ∙ ap slot_of is);
+        over = s.over;
+        living = s.living;
+        served = record { of_run = same ∙ (ap run_of is ∙ s.served.of_run); lives = live };
+      }))
 
-  -- the same beside the carriers that the worker still keeps
-  served_with : (run : RunView T) (v : Hand (RunView T)) (kept all : List (CarrierView T V L)) (c d : CarrierView T V L) →
-      IsServed run v kept c → run_of d ≡ run_of c → slot_of d ≡ slot_of c → all ≡ kept → IsServed run v all d
-  served_with run v kept all c d s same slot more = subst (λ (l : List (CarrierView T V L)). IsServed run v l d) (sym more)
-      (served_after run v kept c d s same slot)
+  -- a carrier that waits with the worker
+  pub work_waiting : (run : RunView T) (v : Hand (RunView T)) (kept waiting all : List (CarrierView T V L)) (c : CarrierView T V L) →
+      IsServing run v kept waiting c → all ≡ waiting ++ c ∷ [] → IsAtWork run v kept all
+  work_waiting run v kept waiting all c s more = subst (IsAtWork run v kept) (sym more) (record {
+    worker = s.worker;
+    held = record {
+      each = λ slot. omega (
+        arith,
+        s.held.each slot,
+        slots_append slot kept waiting,
+        slots_append slot kept (waiting ++ c ∷ []),
+        slots_append slot waiting (c ∷ []),
+      );
+      size = omega (
+        arith,
+        s.held.size,
+        length-append kept waiting,
+        length-append kept (waiting ++ c ∷ []),
+        length-append waiting (c ∷ []),
+      );
+    };
+    over = s.over;
+    living = living_append run waiting (c ∷ []) s.living (s.served, tt);
+  })
 
-  -- the same of an item that is made of the carrier
-  pub served_item : (run : RunView T) (v : Hand (RunView T)) (kept all : List (CarrierView T V L)) (c d i : CarrierView T V L) →
-      IsServed run v kept c → run_of d ≡ run_of c → slot_of d ≡ slot_of c → all ≡ kept → i ≡ d → IsServed run v all i
-  served_item run v kept all c d i s same slot more made =
-      served_as run v all d i (served_with run v kept all c d s same slot more) made
+  -- of carriers from which one was removed
+  removed_slots : (slot : ℕ) (xs : List (CarrierView T V L)) (place : ℕ) (d : CarrierView T V L) → place < length xs →
+      times slot (map slot_of xs)
+      ≡ (if nat_eq (slot_of (slice_index_or xs place d)) slot then 1 else 0) + times slot (map slot_of (remove xs place))
+  removed_slots slot [] place d below = absurd (omega (arith, below))
+  removed_slots slot (x ∷ xs) zero d below = refl
+  removed_slots slot (x ∷ xs) (suc place) d below = omega (arith, removed_slots slot xs place d (omega (arith, below)))
+
+  removed_length : (xs : List (CarrierView T V L)) (place : ℕ) → place < length xs → length xs ≡ suc (length (remove xs place))
+  removed_length [] place below = absurd (omega (arith, below))
+  removed_length (x ∷ xs) zero below = refl
+  removed_length (x ∷ xs) (suc place) below = ap suc (removed_length xs place (omega (arith, below)))
+
+  removed_living : (run : RunView T) (xs : List (CarrierView T V L)) (place : ℕ) (d : CarrierView T V L) → place < length xs →
+      Each (IsLiving run) xs → IsLiving run (slice_index_or xs place d) × Each (IsLiving run) (remove xs place)
+  removed_living run [] place d below are = absurd (omega (arith, below))
+  removed_living run (x ∷ xs) zero d below are = are
+  removed_living run (x ∷ xs) (suc place) d below are =
+      let rest = removed_living run xs place d (omega (arith, below)) are.1 in (rest.0, (are.0, rest.1))
+
+  -- a carrier that waited with the worker is served
+  pub serving_up : (run : RunView T) (v w : Hand (RunView T)) (kept waiting rest : List (CarrierView T V L)) (place : ℕ) (c : CarrierView T V L) →
+      IsAtWork run v kept waiting → place < length waiting → c ≡ slice_index_or waiting place c → rest ≡ remove waiting place →
+      w ≡ v → IsServing run w kept rest c
+  serving_up run v w kept waiting rest place c is below at left same =
+      let living = removed_living run waiting place c below is.living in
+      subst (λ u. IsServing run u kept rest c) (sym same) (subst (λ l. IsServing run v kept l c) (sym left) (record {
+        worker = is.worker;
+        held = record {
+          each = λ slot. omega (
+            arith,
+            is.held.each slot,
+            removed_slots slot waiting place c below,
+            ap (λ x. times slot (slot_of x ∷ [])) at,
+            slots_append slot kept waiting,
+            slots_append slot kept (remove waiting place),
+          );
+          size = omega (
+            arith,
+            is.held.size,
+            removed_length waiting place below,
+            length-append kept waiting,
+            length-append kept (remove waiting place),
+          );
+        };
+        over = is.over;
+        living = living.1;
+        served = subst (IsLiving run) (sym at) living.0;
+      }))
 
   -- a pass that holds nothing, and no carriers
   pub none_held : (slots : List ℕ) → slots ≡ [] → AreHeld {T = T} {V = V} {L = L} slots []
@@ -189,52 +314,76 @@ module _ {T V L : Type 0} where
   over_none run v kept none e = subst (λ (l : List (CarrierView T V L)). IsOverAll run v l) (sym e)
       (record { held = none_held v.holds none; over = tt })
 
-  -- the same carriers, of a pass that holds the same
-  over_same : (run : RunView T) (w : Hand (RunView T)) (kept all : List (CarrierView T V L)) →
-      AreHeld w.holds kept → AreOver run kept → all ≡ kept → IsOverAll run w all
-  over_same run w kept all held over more = subst (λ (l : List (CarrierView T V L)). IsOverAll run w l) (sym more)
-      (record { held = held; over = over })
+  none_more : (kept : List (CarrierView T V L)) → kept ++ [] ≡ kept
+  none_more [] = refl
+  none_more (c ∷ cs) = ap (λ l. c ∷ l) (none_more cs)
 
-  -- no carrier was taken out: those that the worker keeps are all that its pass holds
-  pub over_at_end : {A : Type 0} (run : RunView T) (w : Hand (RunView T)) (kept all : List (CarrierView T V L)) (x : Option A) → x ≡ None →
-      IfNone x (AreHeld w.holds kept) → AreOver run kept → all ≡ kept → IsOverAll run w all
-  over_at_end run w kept all None is held over more = over_same run w kept all held over more
-  over_at_end run w kept all (Some y) is held over more = absurd (true≢false (ap is_some is))
-
-  -- the worker keeps the carrier
-  pub held_kept : (run : RunView T) (v : Hand (RunView T)) (kept : List (CarrierView T V L)) (c : CarrierView T V L) →
-      IsServed run v kept c → AreHeld v.holds (kept ++ c ∷ [])
-  held_kept run v kept c s = record {
-    each = λ slot.
-        omega (arith, ap (times slot) s.first, s.held.each slot, slots_append slot kept (c ∷ []));
-    size = omega (arith, ap length s.first, s.held.size, length-append kept (c ∷ []));
+  -- what a worker keeps, with which no carrier waits
+  pub over_when_none : (run : RunView T) (v : Hand (RunView T)) (kept waiting : List (CarrierView T V L)) → IsAtWork run v kept waiting → waiting ≡ [] →
+      IsOverAll run v kept
+  over_when_none run v kept waiting is none = record {
+    held = subst (AreHeld v.holds) (ap (λ l. kept ++ l) none ∙ none_more kept) is.held;
+    over = is.over;
   }
 
-  pub over_kept : (run : RunView T) (v : Hand (RunView T)) (kept : List (CarrierView T V L)) (c : CarrierView T V L) →
-      IsServed run v kept c → AreOver run kept → has_ended c ≡ true → AreOver run (kept ++ c ∷ [])
-  over_kept run v kept c s over ended = over_append run kept (c ∷ []) over (
-    record {
-      tasker_is = ap (λ (r : RunView T). r.tasker) s.of_run;
-      limits_are = ap (λ (r : RunView T). r.limits) s.of_run;
-      board_is = ap (λ (r : RunView T). r.board) s.of_run;
-      ended = ended;
-    },
-    tt,
-  )
+  pub work_of_over : (run : RunView T) (v : Hand (RunView T)) (kept waiting : List (CarrierView T V L)) → IsWorker run v → IsOverAll run v kept → waiting ≡ [] →
+      IsAtWork run v kept waiting
+  work_of_over run v kept waiting worker is none = subst (IsAtWork run v kept) (sym none) (record {
+    worker = worker;
+    held = subst (AreHeld v.holds) (sym (none_more kept)) is.held;
+    over = is.over;
+    living = tt;
+  })
 
-  -- the same of a carrier that a turn has changed, of a pass that is the same
-  pub held_after : (run : RunView T) (v w : Hand (RunView T)) (kept all : List (CarrierView T V L)) (c d : CarrierView T V L) →
-      IsServed run v kept c → run_of d ≡ run_of c → slot_of d ≡ slot_of c → w ≡ v → all ≡ kept ++ d ∷ [] → AreHeld w.holds all
-  held_after run v w kept all c d s same slot pass more =
-      subst (λ l. AreHeld w.holds l) (sym more) (subst (λ (u : Hand (RunView T)). AreHeld u.holds (kept ++ d ∷ [])) (sym pass)
-      (held_kept run v kept d (served_after run v kept c d s same slot)))
+  pub over_next : (run : RunView T) (v : Hand (RunView T)) (kept waiting seen : List (CarrierView T V L)) (next : Next) →
+      IsAtWork run v kept waiting → seen ≡ waiting → WhenOver next (seen ≡ []) → WhenOver next (IsOverAll run v kept)
+  over_next run v kept waiting seen Served is same none = tt
+  over_next run v kept waiting seen Idle is same none = tt
+  over_next run v kept waiting seen (Ends Stopped) is same none = tt
+  over_next run v kept waiting seen (Ends Empty) is same none = over_when_none run v kept waiting is (sym same ∙ none)
 
-  pub over_after : (run : RunView T) (v : Hand (RunView T)) (kept all : List (CarrierView T V L)) (c d : CarrierView T V L) (x : After) →
-      IsServed run v kept c → AreOver run kept → run_of d ≡ run_of c → slot_of d ≡ slot_of c → IsAfterTurn x d → x ≡ Over →
-      all ≡ kept ++ d ∷ [] → AreOver run all
-  over_after run v kept all c d x s over same slot after is more =
-      subst (λ l. AreOver run l) (sym more) (over_kept run v kept d (served_after run v kept c d s same slot) over
-      (subst (λ y. IsAfterTurn y d) is after))
+  -- the worker keeps the carrier, which a turn has changed
+  pub held_kept : (run : RunView T) (v w : Hand (RunView T)) (kept waiting all more : List (CarrierView T V L)) (c b d : CarrierView T V L) →
+      IsServing run v kept waiting c → b ≡ c → slot_of d ≡ slot_of b → w ≡ v → all ≡ kept ++ d ∷ [] → more ≡ waiting →
+      AreHeld w.holds (all ++ more)
+  held_kept run v w kept waiting all more c b d s is slot same joined still =
+      let held = held_with v.holds (kept ++ waiting) c d s.held (slot ∙ ap slot_of is) in
+      subst (λ (u : Hand (RunView T)). AreHeld u.holds (all ++ more)) (sym same) (subst (AreHeld v.holds)
+      (sym (ap (λ l. l ++ waiting) joined) ∙ sym (ap (λ l. all ++ l) still)) (record {
+        each = λ k. omega (
+          arith,
+          held.each k,
+          slots_append k kept waiting,
+          slots_append k (kept ++ d ∷ []) waiting,
+          slots_append k kept (d ∷ []),
+        );
+        size = omega (
+          arith,
+          held.size,
+          length-append kept waiting,
+          length-append (kept ++ d ∷ []) waiting,
+          length-append kept (d ∷ []),
+        );
+      }))
+
+  pub work_kept : (run : RunView T) (v w : Hand (RunView T)) (kept waiting all more : List (CarrierView T V L)) (c b d : CarrierView T V L) →
+      IsServing run v kept waiting c → b ≡ c → run_of d ≡ run_of b → slot_of d ≡ slot_of b → has_ended d ≡ true →
+      w ≡ v → all ≡ kept ++ d ∷ [] → more ≡ waiting → IsAtWork run w all more
+  work_kept run v w kept waiting all more c b d s is run_same slot ended same joined still =
+      let of_run = run_same ∙ (ap run_of is ∙ s.served.of_run) in record {
+        worker = subst (IsWorker run) (sym same) s.worker;
+        held = held_kept run v w kept waiting all more c b d s is slot same joined still;
+        over = subst (AreOver run) (sym joined) (over_append run kept (d ∷ []) s.over (
+          record {
+            tasker_is = ap (λ (r : RunView T). r.tasker) of_run;
+            limits_are = ap (λ (r : RunView T). r.limits) of_run;
+            board_is = ap (λ (r : RunView T). r.board) of_run;
+            ended = ended;
+          },
+          tt,
+        ));
+        living = subst (Each (IsLiving run)) (sym still) s.living;
+      }
 
   -- where the queue is empty, the pass with all parts holds each slot
   pub holds_all : (v : Hand (RunView T)) → Held 0 (HasAll {T = T} {V = V} {L = L} v) → HoldsAll v
@@ -245,32 +394,20 @@ module _ {T V L : Type 0} where
   }
 
   -- what a worker knows after it took the next carrier out, or found none
-  pub taken_worker : (run : RunView T) (v w : Hand (RunView T)) (x : Option (CarrierView T V L)) → IsWorker run v →
-      MatchOption x ((w ≡ v) × Held 0 (HasAll {T = T} {V = V} {L = L} v)) (λ c. HasLeft v c w) → IsWorker run w
-  taken_worker run v w None is rule = subst (IsWorker run) (sym rule.0) is
-  taken_worker run v w (Some c) is rule = worker_left run v w c is rule
-
   pub taken_parts : (v w : Hand (RunView T)) (x : Option (CarrierView T V L)) →
       MatchOption x ((w ≡ v) × Held 0 (HasAll {T = T} {V = V} {L = L} v)) (λ c. HasLeft v c w) → w.parts ≡ v.parts
   taken_parts v w None rule = ap (λ (u : Hand (RunView T)). u.parts) rule.0
   taken_parts v w (Some c) rule = ap (λ (u : Hand (RunView T)). u.parts) rule.0
 
-  pub taken_served : (run : RunView T) (v w : Hand (RunView T)) (kept : List (CarrierView T V L)) (x : Option (CarrierView T V L)) →
-      IsWorker run v → AreHeld v.holds kept →
-      MatchOption x ((w ≡ v) × Held 0 (HasAll {T = T} {V = V} {L = L} v)) (λ c. HasLeft v c w) →
-      IfSome x (λ c. IsServed run w kept c)
-  taken_served run v w kept None is held rule = tt
-  taken_served run v w kept (Some c) is held rule = served run v w kept c is held rule
+  pub taken_serving : (run : RunView T) (v w : Hand (RunView T)) (kept waiting : List (CarrierView T V L)) (x : Option (CarrierView T V L)) →
+      IsAtWork run v kept waiting → MatchOption x ((w ≡ v) × Held 0 (HasAll {T = T} {V = V} {L = L} v)) (λ c. HasLeft v c w) → IfSome x (λ c. IsServing run w kept waiting c)
+  taken_serving run v w kept waiting None is rule = tt
+  taken_serving run v w kept waiting (Some c) is rule = serving_left run v w kept waiting c is rule
 
-  pub taken_lives : (v w : Hand (RunView T)) (x : Option (CarrierView T V L)) →
-      MatchOption x ((w ≡ v) × Held 0 (HasAll {T = T} {V = V} {L = L} v)) (λ c. HasLeft v c w) → IfSome x (λ c. lives c ≡ true)
-  taken_lives v w None rule = tt
-  taken_lives v w (Some c) rule = rule.1.lives
-
-  pub taken_held : (v w : Hand (RunView T)) (kept : List (CarrierView T V L)) (x : Option (CarrierView T V L)) → AreHeld v.holds kept →
-      MatchOption x ((w ≡ v) × Held 0 (HasAll {T = T} {V = V} {L = L} v)) (λ c. HasLeft v c w) → IfNone x (AreHeld w.holds kept)
-  taken_held v w kept None held rule = subst (λ (u : Hand (RunView T)). AreHeld u.holds kept) (sym rule.0) held
-  taken_held v w kept (Some c) held rule = tt
+  pub taken_work : (run : RunView T) (v w : Hand (RunView T)) (kept waiting : List (CarrierView T V L)) (x : Option (CarrierView T V L)) →
+      IsAtWork run v kept waiting → MatchOption x ((w ≡ v) × Held 0 (HasAll {T = T} {V = V} {L = L} v)) (λ c. HasLeft v c w) → IfNone x (IsAtWork run w kept waiting)
+  taken_work run v w kept waiting None is rule = subst (λ u. IsAtWork run u kept waiting) (sym rule.0) is
+  taken_work run v w kept waiting (Some c) is rule = tt
 
   pub taken_all : (v w : Hand (RunView T)) (x : Option (CarrierView T V L)) →
       MatchOption x ((w ≡ v) × Held 0 (HasAll {T = T} {V = V} {L = L} v)) (λ c. HasLeft v c w) → IfNone x (HoldsAll w)

@@ -1,6 +1,6 @@
 -- What a worker leaves may go to another thread, and several threads may see a crew.
 use denote.RattleType.{RattleType}
-use Rattle.std.proofs.Common.{List, [], ◌∷◌}
+use Rattle.std.proofs.Common.{[], ◌∷◌}
 use denote.Exit.{no}
 use denote.Param.{arg, param}
 use denote.Param.Send.{IsSend, IsSync, arg_send, param_send, recorded_sync, sendable, struct_sync}
@@ -12,6 +12,7 @@ use Rattle.atomic_table.proofs.shared.Seat.TheSendSync.{the_send as seat_send}
 use Rattle.clock_words.proofs.board.Board.TheSendSync.{the_sync as board_sync}
 use Rattle.crossbeam_queue.proofs.array_queue.Slotted.TheSendSync.{the_sync as queue_sync}
 use Rattle.stamp_machine.proofs.limits.Limits.TheSendSync.{the_sync as limits_sync}
+use Rattle.std.proofs.sync.atomic.AtomicU64.TheSendSync.{the_sync as number_sync}
 use Rattle.std.proofs.alloc.Global.TheSendSync.{the_send as allocator_send, the_sync as global_sync}
 use Rattle.std.specs.contracts.alloc.Global.{the_row as global_row}
 use Rattle.std.below.std_heap.proofs.GlobalAllocator.TheSendSync.{the_frees as global_frees}
@@ -55,7 +56,7 @@ module _ (T V L : RattleType) (g : Ghosts T.Denot V.Denot L.Denot) where
   pass_send v l = search (sendable, item_send, seat_send) depth 30
 
   pub worker_send : IsSend V → IsSend L → IsSend (worker_row T V L g)
-  worker_send v l = search (sendable, carrier_send, pass_send, vec_send, global_send, global_frees) depth 30
+  worker_send v l = search (sendable, carrier_send, item_send, pass_send, vec_send, global_send, global_frees) depth 30
 
   -- what a thread of a worker gives back
   abbrev pub given_row : Sym → RattleType
@@ -78,7 +79,10 @@ crew_sync a t T G V L g tasker gate v l =
           search (sendable, limits_sync) depth 30,
           (
             search sendable depth 30,
-            (search (sendable, queue_sync, item_send, global_send, global_sync, global_frees) depth 30, tt),
+            (
+              search (sendable, queue_sync, item_send, global_send, global_sync, global_frees) depth 30,
+              (search sendable depth 30, (search (sendable, number_sync) depth 30, tt)),
+            ),
           ),
         ),
       ),

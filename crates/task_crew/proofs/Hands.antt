@@ -1,16 +1,40 @@
 -- Each step on the queue keeps the rule.
-use Rattle.std.proofs.Common.{◌≡◌, ◌≢◌, ℕ, zero, suc, ◌+◌, ◌-◌, ◌<◌, ◌≤◌, nat_eq, nat_lt, true, false, Bool, List, [], ◌∷◌, ◌++◌, drop, length, map, set, sym, refl, ap, ◌∙◌, subst, ⊎_elim, Option, Some, None, length-append, arith, if◌then◌else◌, is_some, true≢false}
+use Rattle.std.proofs.Common.{◌≡◌, ◌≢◌, ℕ, zero, suc, ◌+◌, ◌<◌, ◌≤◌, nat_eq, true, false, Bool, List, [], ◌∷◌, ◌++◌, length, map, set, sym, refl, ap, ◌∙◌, subst, ⊎_elim, Option, Some, None, length-append, arith, if◌then◌else◌, is_some, true≢false}
 use mathlib.Core.Option.{some, some-injective, some-ne-none}
 use lib.ListN.{get_elem?}
 use Rattle.std.proofs.lemmas.Bool.Decides.{nat_tests}
 use Rattle.crossbeam_queue.specs.Fifo.{Pushes, Pops, Forks, Merges, Learns}
 use Rattle.crossbeam_queue.proofs.Lists.{at_set, at_snoc}
 use Rattle.task_crew.specs.declared.hand.Hand.{Hand}
-use Rattle.task_crew.specs.Hands.{times, once_below, total, hand, first_hand, run_of_first, filled, kept_part, other_parts, both, spent, IsInRun, AreInRun, AreOnce, Enters, Leaves, Returns, AreFew, AreAll}
+use Rattle.task_crew.specs.Hands.{times, once_below, total, hand, first_hand, run_of_first, filled, kept_part, without, other_parts, both, spent, IsInRun, AreInRun, AreOnce, Enters, Leaves, Returns, AreFew, AreAll}
 
 pub times_append : (slot : ℕ) (xs ys : List ℕ) → times slot (xs ++ ys) ≡ times slot xs + times slot ys
 times_append slot [] ys = omega arith
 times_append slot (x ∷ xs) ys = omega (arith, times_append slot xs ys)
+
+-- the list that a slot left, where it stood
+leaves_once : (here : Bool) (slot other s : ℕ) (ss : List ℕ) → nat_eq s slot ≡ here → 0 < times slot (s ∷ ss) →
+    (0 < times slot ss → times other ss ≡ (if nat_eq slot other then 1 else 0) + times other (without slot ss)) →
+    times other (s ∷ ss) ≡ (if nat_eq slot other then 1 else 0) + times other (if here then ss else s ∷ without slot ss)
+leaves_once true slot other s ss is there rest = grind (arith, nat_tests, is)
+leaves_once false slot other s ss is there rest =
+    omega (arith, rest (omega (arith, there, ap {B = ℕ} (λ b. if b then 1 else 0) is)))
+
+pub times_without : (slot other : ℕ) (ss : List ℕ) → 0 < times slot ss →
+    times other ss ≡ (if nat_eq slot other then 1 else 0) + times other (without slot ss)
+times_without slot other [] there = absurd (omega (arith, there))
+times_without slot other (s ∷ ss) there =
+    leaves_once (nat_eq s slot) slot other s ss refl there (times_without slot other ss)
+
+one_fewer : (here : Bool) (slot s : ℕ) (ss : List ℕ) → nat_eq s slot ≡ here → 0 < times slot (s ∷ ss) →
+    (0 < times slot ss → length ss ≡ suc (length (without slot ss))) →
+    suc (length ss) ≡ suc (length (if here then ss else s ∷ without slot ss))
+one_fewer true slot s ss is there rest = refl
+one_fewer false slot s ss is there rest = ap suc (rest (omega (arith, there, ap {B = ℕ} (λ b. if b then 1 else 0) is)))
+
+pub length_without : (slot : ℕ) (ss : List ℕ) → 0 < times slot ss → length ss ≡ suc (length (without slot ss))
+length_without slot [] there = absurd (omega (arith, there))
+length_without slot (s ∷ ss) there = one_fewer (nat_eq s slot) slot s ss refl there (length_without slot ss)
 
 -- the sum after a change of one item
 total_set : {A : Type 0} (f : A → ℕ) (xs : List A) (place : ℕ) (v w : A) → get_elem? xs place ≡ some v →
@@ -147,10 +171,10 @@ module _ {C R : Type 0} (slot_of : C → ℕ) (run_of : C → R) (Lives : C → 
         (refl, subst (λ o. IsInRun slot_of run_of Lives o c) (sym same.0) kept.in_run.0),
       )
 
-  pub returns : (n pass : ℕ) (v : Hand R) (c : C) (rest : List ℕ) → 0 < v.parts → v.holds ≡ slot_of c ∷ rest →
+  pub returns : (n pass : ℕ) (v : Hand R) (c : C) → 0 < v.parts → 0 < times (slot_of c) v.holds →
       IsInRun slot_of run_of Lives v.run c → Pushes Kept n pass v c (Returns slot_of run_of Lives v c)
-  returns n pass v c rest some_part holds is items views _ kept at =
-      let w : Hand R = hand v.parts v.run v.count (drop 1 v.holds) in
+  returns n pass v c some_part holds is items views _ kept at =
+      let w : Hand R = hand v.parts v.run v.count (without (slot_of c) v.holds) in
       let same = kept.know pass v at some_part in (
         w,
         record {
@@ -166,16 +190,14 @@ module _ {C R : Type 0} (slot_of : C → ℕ) (run_of : C → R) (Lives : C → 
             slots_append slot items c,
             total_set (λ u. times slot u.holds) views pass v w at,
             kept.once slot,
-            ap (λ l. times slot l) holds,
-            ap (λ l. times slot (drop 1 l)) holds,
+            times_without (slot_of c) slot v.holds holds,
           );
           all = omega (
             arith,
             length-append items (c ∷ []),
             total_set (λ u. length u.holds) views pass v w at,
             kept.all,
-            ap length holds,
-            ap (λ l. length (drop 1 l)) holds,
+            length_without (slot_of c) v.holds holds,
           );
           in_run = in_run_append kept.run items c kept.in_run (subst (λ o. IsInRun slot_of run_of Lives o c) same.0 is);
         },

@@ -1,5 +1,5 @@
 -- The queue's rule for the carriers of a run, and what a worker keeps.
-use Rattle.std.specs.Prelude.{ℕ, ◌+◌, ◌-◌, ◌^◌, ◌≡◌, ◌<◌, if◌then◌else◌, min, nat_lt, Bool, true, false, List, [], ◌∷◌, drop, length, map, Some, ⊤}
+use Rattle.std.specs.Prelude.{ℕ, ◌+◌, ◌-◌, ◌^◌, ◌≡◌, ◌<◌, if◌then◌else◌, min, nat_lt, Bool, true, false, List, [], ◌∷◌, ◌++◌, length, map, Some, ⊤}
 use Rattle.clock_words.specs.Seats.{BoardView}
 use Rattle.stamp_machine.specs.Limits.{AreLimits}
 use Rattle.stamp_machine.specs.declared.limits.Limits.{Limits}
@@ -11,12 +11,14 @@ use Rattle.version_store.specs.declared.advance.Advance.TheVariants.{Moved, Bloc
 use Rattle.version_store.specs.Gathers.{IsAtEnd}
 use Rattle.version_store.specs.Stories.{run_lists}
 use Rattle.work_stamp.specs.Taskers.{Rules}
-use Rattle.task_crew.specs.Hands.{AreAll, AreFew, AreOnce, Enters, Leaves, Returns, IsInRun, once_below, times}
+use Rattle.task_crew.specs.Hands.{AreAll, AreFew, AreOnce, Enters, Leaves, Returns, once_below, times}
 use Rattle.task_crew.specs.declared.hand.Hand.{Hand}
 use Rattle.task_crew.specs.declared.worker.After.{After}
 use Rattle.task_crew.specs.declared.worker.After.TheVariants.{Goes, Waits, Over, Halted, Broken}
 use Rattle.task_crew.specs.declared.worker.End.{End}
 use Rattle.task_crew.specs.declared.worker.End.TheVariants.{Empty, Stopped}
+use Rattle.task_crew.specs.declared.worker.Next.{Next}
+use Rattle.task_crew.specs.declared.worker.Next.TheVariants.{Served, Idle, Ends}
 
 -- the run of a crew: the plain data of its tasker, its limits, and its board
 pub record RunView (T : Type 0) : Type 0 where
@@ -46,6 +48,18 @@ clock_awaited number clock slot = if nat_lt slot number then min (clock + 1) (2 
 abbrev pub WhenEmpty : End → Type 0 → Type 0
 WhenEmpty Empty P = P
 WhenEmpty Stopped P = ⊤
+
+-- what holds where a worker returns that found the queue empty
+abbrev pub WhenOver : Next → Type 0 → Type 0
+WhenOver Served P = ⊤
+WhenOver Idle P = ⊤
+WhenOver (Ends end) P = WhenEmpty end P
+
+-- what holds where a worker goes on
+abbrev pub WhenGoesOn : Next → Type 0 → Type 0
+WhenGoesOn Served P = P
+WhenGoesOn Idle P = P
+WhenGoesOn (Ends end) P = ⊤
 
 -- why two workers return, whose carriers were kept together or not
 abbrev pub end_of : Bool → End → End → End
@@ -82,8 +96,8 @@ module _ {T V L : Type 0} where
   IsAfterTurn Goes c = lives c ≡ true
   IsAfterTurn (Waits awaited) c = lives c ≡ true
   IsAfterTurn Over c = has_ended c ≡ true
-  IsAfterTurn Halted c = lives c ≡ true
-  IsAfterTurn Broken c = ⊤
+  IsAfterTurn Halted c = (lives c ≡ true) × (c.seat.stop ≡ true)
+  IsAfterTurn Broken c = c.seat.stop ≡ true
 
   -- the carrier has moves to make
   abbrev pub Lives : CarrierView T V L → Type 0
@@ -107,17 +121,15 @@ module _ {T V L : Type 0} where
   abbrev pub HasAll : Hand (RunView T) → List (CarrierView T V L) → Type 0
   HasAll = AreAll slot_of run_of Lives
 
-  -- a worker keeps the carriers of these slots
-  pub record AreHeld (slots : List ℕ) (kept : List (CarrierView T V L)) : Type 0 where
-    pub each : (slot : ℕ) → times slot slots ≡ times slot (map slot_of kept)
-    pub size : length slots ≡ length kept
+  -- these are the carriers of these slots, in some order
+  pub record AreHeld (slots : List ℕ) (carriers : List (CarrierView T V L)) : Type 0 where
+    pub each : (slot : ℕ) → times slot slots ≡ times slot (map slot_of carriers)
+    pub size : length slots ≡ length carriers
 
-  -- a worker serves a carrier of the run, beside those that it keeps
-  pub record IsServed (run : RunView T) (v : Hand (RunView T)) (kept : List (CarrierView T V L))
-      (c : CarrierView T V L) : Type 0 where
+  -- a carrier of the run that has moves to make
+  pub record IsLiving (run : RunView T) (c : CarrierView T V L) : Type 0 where
     pub of_run : run_of c ≡ run
-    pub first : v.holds ≡ slot_of c ∷ drop 1 v.holds
-    pub held : AreHeld (drop 1 v.holds) kept
+    pub lives : lives c ≡ true
 
   -- carriers of the run, each of which stands at its slot's end
   abbrev pub AreOver : RunView T → List (CarrierView T V L) → Type 0
@@ -128,6 +140,23 @@ module _ {T V L : Type 0} where
       Type 0 where
     pub held : AreHeld v.holds kept
     pub over : AreOver run kept
+
+  -- a worker holds the carriers of its pass: it keeps some, which are over, and others wait with it
+  pub record IsAtWork (run : RunView T) (v : Hand (RunView T))
+      (kept waiting : List (CarrierView T V L)) : Type 0 where
+    pub worker : IsWorker run v
+    pub held : AreHeld v.holds (kept ++ waiting)
+    pub over : AreOver run kept
+    pub living : Each (IsLiving run) waiting
+
+  -- the same of a worker that serves one more carrier
+  pub record IsServing (run : RunView T) (v : Hand (RunView T))
+      (kept waiting : List (CarrierView T V L)) (c : CarrierView T V L) : Type 0 where
+    pub worker : IsWorker run v
+    pub held : AreHeld v.holds (c ∷ (kept ++ waiting))
+    pub over : AreOver run kept
+    pub living : Each (IsLiving run) waiting
+    pub served : IsLiving run c
 
   -- a crew and a pass of a worker that keeps nothing
   pub record CanWork (r : Rules V L) (run : RunView T) (capacity : ℕ) (v : Hand (RunView T)) :

@@ -1,5 +1,5 @@
 -- The rule of the queue of carriers: over items with a slot and a run, and the views of all passes.
-use Rattle.std.specs.Prelude.{ℕ, zero, suc, ◌≡◌, ◌+◌, ◌-◌, ◌<◌, ◌≤◌, nat_eq, nat_lt, if◌then◌else◌, List, [], ◌∷◌, ◌++◌, drop, length, map, Option, Some, None, ⊤}
+use Rattle.std.specs.Prelude.{ℕ, zero, suc, ◌≡◌, ◌+◌, ◌-◌, ◌<◌, ◌≤◌, nat_eq, nat_lt, if◌then◌else◌, List, [], ◌∷◌, ◌++◌, length, map, Option, Some, None, ⊤}
 use mathlib.Core.Option.{some}
 use lib.ListN.{get_elem?}
 use Rattle.task_crew.specs.declared.hand.Hand.{Hand}
@@ -12,6 +12,11 @@ times slot (s ∷ ss) = (if nat_eq s slot then 1 else 0) + times slot ss
 -- one for each slot below the count
 abbrev pub once_below : ℕ → ℕ → ℕ
 once_below count slot = if nat_lt slot count then 1 else 0
+
+-- a list after a slot left it once
+abbrev pub without : ℕ → List ℕ → List ℕ
+without slot [] = []
+without slot (s ∷ ss) = if nat_eq s slot then ss else s ∷ without slot ss
 
 -- of each item a number, added up
 abbrev pub total : {A : Type 0} → (A → ℕ) → List A → ℕ
@@ -82,9 +87,9 @@ module _ {C R : Type 0} (slot_of : C → ℕ) (run_of : C → R) (Lives : C → 
   abbrev pub Leaves : Hand R → C → Hand R → Type 0
   Leaves v c w = (w ≡ hand v.parts v.run v.count (slot_of c ∷ v.holds)) × IsInRun v.run c
 
-  -- the carrier that was taken out last is put back
+  -- a carrier that was taken out is put back
   abbrev pub Returns : Hand R → C → Hand R → Type 0
-  Returns v c w = w ≡ hand v.parts v.run v.count (drop 1 v.holds)
+  Returns v c w = w ≡ hand v.parts v.run v.count (without (slot_of c) v.holds)
 
   -- in the queue and with this pass there are no more carriers than the run has
   abbrev pub AreFew : Hand R → List C → Type 0

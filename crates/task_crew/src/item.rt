@@ -47,6 +47,11 @@ impl<T: Tasker> QueueItem<T> {
         let QueueItem { carrier, awaited } = self;
         (carrier, awaited)
     }
+
+    /// What it waits for.
+    pub(crate) fn awaited(&self) -> Option<Awaited> {
+        self.awaited
+    }
 }
 
 /// What a carrier waits for when its next move has to see more of a slot: a smaller slot moves first

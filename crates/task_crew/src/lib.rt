@@ -10,8 +10,6 @@ mod hand;
 mod item;
 mod rule;
 mod run;
-#[cfg(test)]
-mod tests;
 mod worker;
 
 pub use gate::{Gate, MeetGate, OpenGate};

@@ -53,7 +53,7 @@ impl<T: Tasker> Lesson<QueueItem<T>, Hand<Run<T>>> for Leave {
     ghost fact = { HasAll };
 }
 
-/// The carrier that was taken out last is put back.
+/// A carrier that was taken out is put back.
 pub(crate) struct Return;
 
 impl<T: Tasker> Outcome<QueueItem<T>, Hand<Run<T>>> for Return {

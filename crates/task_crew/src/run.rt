@@ -13,14 +13,15 @@ ghost use Rattle.task_crew.specs.Hands.{filled, first_hand};
 use crate::gate::Gate;
 use crate::item::QueueItem;
 use crate::rule::{Enter, Pass, Queue, Share, TakeIn};
-use crate::worker::{Crew, End, Worker, work, work_first};
+use crate::worker::{Crew, End, Worker, start, start_first};
 use clock_words::{Board, BoardSeat};
 use ip_core::{List, OutOfMemory};
 use stamp_machine::{History, Limits, entries_fit_stores};
 use std::alloc::Global;
 use std::sync::Wait;
+use std::sync::atomic::AtomicU64;
 use std::thread;
-use std::thread::Threads;
+use std::thread::{Threads, available_parallelism};
 use version_store::{Carrier, RunStory, gather};
 use work_stamp::Tasker;
 
@@ -141,7 +142,12 @@ fn both<T: Tasker, G>(
         (view result.0.pass) result.0.kept.items) }
 {
     let (mut worker, end) = one;
-    let (Worker { pass, kept }, other_end) = other;
+    let (other, other_end) = other;
+    let Worker {
+        pass,
+        kept,
+        waiting: _,
+    } = other;
     crew.queue.absorb::<TakeIn>(&mut worker.pass, pass);
     let (worker, fits) = keep_all(worker, kept);
     (worker, end_of_both(fits, end, other_end))
@@ -194,7 +200,7 @@ fn workers<T: Tasker + Sync, G: Gate + Sync, R: Threads + Wait + Sync>(
         (view result.0.pass) result.0.kept.items) }
 {
     if threads == 1 {
-        return work_first(rt, alloc, crew, pass);
+        return start_first(rt, alloc, crew, pass);
     }
     let (pass, others) = share(crew, pass);
     let (one, other) = thread::join(
@@ -207,7 +213,7 @@ fn workers<T: Tasker + Sync, G: Gate + Sync, R: Threads + Wait + Sync>(
                 (run_on crew.entry.now.tasker.now crew.entry.now.limits.now
                 crew.entry.now.board.now)
                 (view pass).parts (view result.0.pass) result.0.kept.items result.1 }
-        { work_first(rt, alloc, crew, pass) },
+        { start_first(rt, alloc, crew, pass) },
         move || -> (Worker<T>, End)
             requires { IsSync T.row × IsSync G.row × IsSync R.row
                 × (1 < threads) × (threads ≤ (view others).parts + 1)
@@ -246,16 +252,35 @@ fn carriers_at_end<T: Tasker + Sync, G: Gate + Sync, R: Threads + Wait + Sync>(
     let End::Empty = end else {
         return Err(OutOfMemory);
     };
-    let (worker, end) = work(rt, alloc, crew, worker);
+    let Worker {
+        pass,
+        kept,
+        waiting: _,
+    } = worker;
+    let (worker, end) = start(rt, alloc, crew, pass, kept);
     let End::Empty = end else {
         return Err(OutOfMemory);
     };
     Ok(List::of(worker.kept))
 }
 
+/// How many workers there are: no more than threads are asked for, than slots, and than processors,
+/// or four where those are fewer.
+fn number_of_workers<R: Threads>(rt: &R, threads: u32, slots: u32) -> u32
+    requires { (0 < threads) × (threads ≤ 64) × (0 < slots) }
+    ensures { (0 < result) × (result ≤ threads) }
+{
+    let processors = match available_parallelism(rt) {
+        Ok(count) => u32::try_from(count.get()).unwrap_or(u32::MAX),
+        Err(_) => threads,
+    };
+    threads.min(slots).min(processors.max(4))
+}
+
 /// Lets the slots work on 1 to 64 threads until none lives, and gives what they leave: the history
 /// of the machine on one thread, however many threads there are and whatever the gate does. It waits
-/// for its threads.
+/// for its threads, of which there are no more than slots, nor than processors, or four where those
+/// are fewer.
 pub fn run_crew<T: Tasker + Sync, G: Gate + Sync, R: Threads + Wait + Sync>(
     rt: &R,
     alloc: Global,
@@ -272,13 +297,17 @@ pub fn run_crew<T: Tasker + Sync, G: Gate + Sync, R: Threads + Wait + Sync>(
     let story = RunStory::of(tasker, *limits);
     let (board, seats) = Board::new(alloc, story, limits.slots, limits.store)?;
     let (queue, pass) = Queue::ruled(alloc, limits.slots as usize)?;
+    let live_slots = AtomicU64::new(u64::from(limits.slots));
+    let workers = number_of_workers(rt, threads, limits.slots);
     let crew = Crew {
         board: &board,
         tasker,
         limits,
         gate,
         queue: &queue,
+        most_waiting: limits.slots.div_ceil(workers) as usize,
+        live_slots: &live_slots,
     };
-    let carriers = carriers_at_end(rt, alloc, &crew, threads, seats, pass)?;
+    let carriers = carriers_at_end(rt, alloc, &crew, workers, seats, pass)?;
     gather(alloc, &board, carriers)
 }

@@ -1,7 +1,7 @@
 //! The work of one thread of a crew.
-ghost use Rattle.std.specs.Prelude.{◌≡◌, ◌+◌, ◌++◌, ◌∷◌, ◌<◌, [], true, vec_capacity, vec_len, IfNone, IfOk, IfSome};
+ghost use Rattle.std.specs.Prelude.{◌≡◌, ◌+◌, ◌++◌, ◌∷◌, ◌<◌, [], length, true, vec_capacity, vec_len, IfNone, IfOk, IfSome};
 ghost use Rattle.crossbeam_queue.specs.Passes.{IsPassOf, ruled_capacity, view};
-ghost use Rattle.task_crew.specs.Crews.{AreHeld, AreOver, HoldsAll, IsAfterMove, IsAfterTurn, IsCrew, IsOverAll, IsServed, IsWorker, WhenEmpty, run_of, run_on};
+ghost use Rattle.task_crew.specs.Crews.{AreHeld, HoldsAll, IsAfterMove, IsAfterTurn, IsAtWork, IsCrew, IsOverAll, IsServing, IsWorker, WhenEmpty, WhenGoesOn, WhenOver, run_of, run_on};
 ghost use Rattle.version_store.specs.Advances.{lives};
 
 use crate::gate::Gate;
@@ -11,12 +11,19 @@ use clock_words::Board;
 use ip_core::OutOfMemory;
 use stamp_machine::Limits;
 use std::alloc::Global;
+use std::hint::spin_loop;
 use std::sync::Wait;
+use std::sync::atomic::{AtomicU64, Ordering};
 use std::thread;
 use version_store::{Advance, Carrier, RunStory};
 use work_stamp::Tasker;
 
-/// What the workers of a crew share.
+/// After so many looks in vain a worker lets other threads run.
+const LOOKS: u32 = 100;
+
+/// What the workers of a crew share. At most so many carriers wait with a worker. How many slots
+/// live, or 0 after a stop, is a hint on which no contract rests: a worker that finds no carrier
+/// returns where it is 0.
 #[derive(Drop)]
 pub(crate) struct Crew<'a, 't, T: Tasker, G> {
     pub board: &'a Board<RunStory<'t, T>>,
@@ -24,19 +31,23 @@ pub(crate) struct Crew<'a, 't, T: Tasker, G> {
     pub limits: &'a Limits,
     pub gate: &'a G,
     pub queue: &'a Queue<T>,
+    pub most_waiting: usize,
+    pub live_slots: &'a AtomicU64,
 }
 
-/// A pass of the queue, and the carriers that its worker keeps.
+/// A pass of the queue, the carriers that its worker keeps, whose slots are over, and those that
+/// wait with it, which are at most as many as there is room for.
 #[derive(Drop)]
 pub(crate) struct Worker<T: Tasker> {
     pub pass: Pass<T>,
     pub kept: Vec<Carrier<T>>,
+    pub waiting: Vec<QueueItem<T>>,
 }
 
 /// Why a worker returns.
 #[derive(Clone, Copy)]
 pub enum End {
-    /// It found the queue empty.
+    /// It found the queue empty, and no carrier waits with it.
     Empty,
     /// It found a stop, or called it.
     Stopped,
@@ -55,6 +66,17 @@ pub enum After {
     Halted,
     /// It found no memory, and called the stop.
     Broken,
+}
+
+/// What a worker does after a step.
+#[derive(Clone, Copy)]
+pub enum Next {
+    /// It served a carrier, and goes on.
+    Served,
+    /// It found none that may move, and looks again.
+    Idle,
+    /// It returns, for this reason.
+    Ends(End),
 }
 
 /// Makes the next move of a carrier.
@@ -122,22 +144,47 @@ fn put_back<T: Tasker, G: Gate, R: Wait>(
     requires crew { IsCrew (T.rules crew.now.tasker.now) crew.now.limits.now crew.now.board.now
         (ruled_capacity crew.now.queue.now) }
     requires queue { IsPassOf crew.now.queue.now worker.pass }
-    requires worker { IsWorker
-        (run_on crew.now.tasker.now crew.now.limits.now crew.now.board.now) (view worker.pass) }
-    requires served { IsServed
+    requires serving { IsServing
         (run_on crew.now.tasker.now crew.now.limits.now crew.now.board.now)
-        (view worker.pass) worker.kept.items item }
-    requires lives { lives item ≡ true }
+        (view worker.pass) worker.kept.items worker.waiting.items item }
     ensures queue { IsPassOf crew.now.queue.now result.pass }
-    ensures worker { IsWorker
-        (run_on crew.now.tasker.now crew.now.limits.now crew.now.board.now) (view result.pass) }
     ensures parts { (view result.pass).parts ≡ (view worker.pass).parts }
-    ensures kept { result.kept.items ≡ worker.kept.items }
-    ensures held { AreHeld (view result.pass).holds result.kept.items }
+    ensures work { IsAtWork
+        (run_on crew.now.tasker.now crew.now.limits.now crew.now.board.now)
+        (view result.pass) result.kept.items result.waiting.items }
 {
     let Ok(()) = crew.queue.push_as::<Return, R>(rt, &mut worker.pass, item) else {
         unreachable!()
     };
+    worker
+}
+
+/// Lets a carrier wait with the worker. Where there is no room for it, it goes back into the queue,
+/// and other threads run.
+fn set_aside<T: Tasker, G: Gate, R: Wait>(
+    rt: &R,
+    crew: &Crew<'_, '_, T, G>,
+    mut worker: Worker<T>,
+    item: QueueItem<T>,
+) -> Worker<T>
+    requires crew { IsCrew (T.rules crew.now.tasker.now) crew.now.limits.now crew.now.board.now
+        (ruled_capacity crew.now.queue.now) }
+    requires queue { IsPassOf crew.now.queue.now worker.pass }
+    requires serving { IsServing
+        (run_on crew.now.tasker.now crew.now.limits.now crew.now.board.now)
+        (view worker.pass) worker.kept.items worker.waiting.items item }
+    ensures queue { IsPassOf crew.now.queue.now result.pass }
+    ensures parts { (view result.pass).parts ≡ (view worker.pass).parts }
+    ensures work { IsAtWork
+        (run_on crew.now.tasker.now crew.now.limits.now crew.now.board.now)
+        (view result.pass) result.kept.items result.waiting.items }
+{
+    if worker.waiting.len() < worker.waiting.capacity() {
+        worker.waiting.push_reserved(item);
+        return worker;
+    }
+    let worker = put_back(rt, crew, worker, item);
+    thread::yield_now();
     worker
 }
 
@@ -146,12 +193,13 @@ fn keep<T: Tasker>(mut worker: Worker<T>, carrier: Carrier<T>) -> Worker<T>
     requires room { vec_len worker.kept < vec_capacity worker.kept }
     ensures pass { result.pass ≡ worker.pass }
     ensures kept { result.kept.items ≡ worker.kept.items ++ carrier ∷ [] }
+    ensures waiting { result.waiting ≡ worker.waiting }
 {
     worker.kept.push_reserved(carrier);
     worker
 }
 
-/// Gives a carrier that was taken out a turn, and says whether the worker goes on.
+/// Gives a carrier that is out of the queue a turn, and says whether the worker goes on.
 fn serve<T: Tasker, G: Gate, R: Wait>(
     rt: &R,
     alloc: Global,
@@ -162,21 +210,18 @@ fn serve<T: Tasker, G: Gate, R: Wait>(
     requires crew { IsCrew (T.rules crew.now.tasker.now) crew.now.limits.now crew.now.board.now
         (ruled_capacity crew.now.queue.now) }
     requires queue { IsPassOf crew.now.queue.now worker.pass }
-    requires worker { IsWorker
-        (run_on crew.now.tasker.now crew.now.limits.now crew.now.board.now) (view worker.pass) }
-    requires served { IsServed
+    requires serving { IsServing
         (run_on crew.now.tasker.now crew.now.limits.now crew.now.board.now)
-        (view worker.pass) worker.kept.items item }
-    requires lives { lives item ≡ true }
-    requires over { AreOver (run_on crew.now.tasker.now crew.now.limits.now crew.now.board.now)
-        worker.kept.items }
+        (view worker.pass) worker.kept.items worker.waiting.items item }
     ensures queue { IsPassOf crew.now.queue.now result.0.pass }
+    ensures parts { (view result.0.pass).parts ≡ (view worker.pass).parts }
     ensures worker { IsWorker
         (run_on crew.now.tasker.now crew.now.limits.now crew.now.board.now) (view result.0.pass) }
-    ensures parts { (view result.0.pass).parts ≡ (view worker.pass).parts }
-    ensures held { AreHeld (view result.0.pass).holds result.0.kept.items }
-    ensures over { result.1 ≡ true → AreOver
-        (run_on crew.now.tasker.now crew.now.limits.now crew.now.board.now) result.0.kept.items }
+    ensures held { AreHeld (view result.0.pass).holds
+        (result.0.kept.items ++ result.0.waiting.items) }
+    ensures work { result.1 ≡ true → IsAtWork
+        (run_on crew.now.tasker.now crew.now.limits.now crew.now.board.now)
+        (view result.0.pass) result.0.kept.items result.0.waiting.items }
 {
     let (mut carrier, awaited) = item.into_parts();
     if worker.kept.reserve(1).is_err() {
@@ -192,13 +237,14 @@ fn serve<T: Tasker, G: Gate, R: Wait>(
             put_back(rt, crew, worker, QueueItem::new(carrier, None)),
             true,
         ),
-        After::Waits(awaited) => {
-            let item = QueueItem::new(carrier, Some(awaited));
-            let worker = put_back(rt, crew, worker, item);
-            thread::yield_now();
-            (worker, true)
+        After::Waits(awaited) => (
+            set_aside(rt, crew, worker, QueueItem::new(carrier, Some(awaited))),
+            true,
+        ),
+        After::Over => {
+            crew.live_slots.fetch_sub(1, Ordering::Relaxed);
+            (keep(worker, carrier), true)
         }
-        After::Over => (keep(worker, carrier), true),
         After::Halted => (
             put_back(rt, crew, worker, QueueItem::new(carrier, None)),
             false,
@@ -214,28 +260,156 @@ fn take_out<T: Tasker, G, R: Wait>(
     mut worker: Worker<T>,
 ) -> (Worker<T>, Option<QueueItem<T>>)
     requires queue { IsPassOf crew.now.queue.now worker.pass }
-    requires worker { IsWorker
-        (run_on crew.now.tasker.now crew.now.limits.now crew.now.board.now) (view worker.pass) }
-    requires held { AreHeld (view worker.pass).holds worker.kept.items }
-    ensures queue { IsPassOf crew.now.queue.now result.0.pass }
-    ensures worker { IsWorker
-        (run_on crew.now.tasker.now crew.now.limits.now crew.now.board.now) (view result.0.pass) }
-    ensures parts { (view result.0.pass).parts ≡ (view worker.pass).parts }
-    ensures kept { result.0.kept.items ≡ worker.kept.items }
-    ensures served { IfSome result.1 (λ item. IsServed
+    requires work { IsAtWork
         (run_on crew.now.tasker.now crew.now.limits.now crew.now.board.now)
-        (view result.0.pass) worker.kept.items item) }
-    ensures lives { IfSome result.1 (λ item. lives item ≡ true) }
-    ensures held { IfNone result.1 (AreHeld (view result.0.pass).holds worker.kept.items) }
+        (view worker.pass) worker.kept.items worker.waiting.items }
+    ensures queue { IsPassOf crew.now.queue.now result.0.pass }
+    ensures parts { (view result.0.pass).parts ≡ (view worker.pass).parts }
+    ensures serving { IfSome result.1 (λ item. IsServing
+        (run_on crew.now.tasker.now crew.now.limits.now crew.now.board.now)
+        (view result.0.pass) result.0.kept.items result.0.waiting.items item) }
+    ensures work { IfNone result.1 (IsAtWork
+        (run_on crew.now.tasker.now crew.now.limits.now crew.now.board.now)
+        (view result.0.pass) result.0.kept.items result.0.waiting.items) }
     ensures all { IfNone result.1 (HoldsAll (view result.0.pass)) }
 {
     let item = crew.queue.pop_as::<Leave, R>(rt, &mut worker.pass);
     (worker, item)
 }
 
-/// Takes carriers out of the queue and gives each a turn, until the queue is empty or a stop was
-/// called.
-pub(crate) fn work<T: Tasker, G: Gate, R: Wait>(
+/// The place of a carrier whose awaited clock has come, as far as a plain look tells.
+fn first_ready<T: Tasker, G>(crew: &Crew<'_, '_, T, G>, waiting: &[QueueItem<T>]) -> Option<usize>
+    requires crew { IsCrew (T.rules crew.now.tasker.now) crew.now.limits.now crew.now.board.now
+        (ruled_capacity crew.now.queue.now) }
+    ensures { IfSome result (λ place. place < length waiting.now) }
+{
+    for place in 0..waiting.len() {
+        if awaited_still(crew, waiting[place].awaited()).is_none() {
+            return Some(place);
+        }
+    }
+    None
+}
+
+/// Takes up a carrier that waits with the worker.
+fn take_up<T: Tasker, G>(
+    crew: &Crew<'_, '_, T, G>,
+    mut worker: Worker<T>,
+    place: usize,
+) -> (Worker<T>, QueueItem<T>)
+    requires place { place < vec_len worker.waiting }
+    requires stands { place < length worker.waiting.items }
+    requires work { IsAtWork
+        (run_on crew.now.tasker.now crew.now.limits.now crew.now.board.now)
+        (view worker.pass) worker.kept.items worker.waiting.items }
+    ensures pass { result.0.pass ≡ worker.pass }
+    ensures serving { IsServing
+        (run_on crew.now.tasker.now crew.now.limits.now crew.now.board.now)
+        (view result.0.pass) result.0.kept.items result.0.waiting.items result.1 }
+{
+    let _ = crew;
+    let item = worker.waiting.remove(place);
+    (worker, item)
+}
+
+/// The carrier that the worker serves next: one that waited with it and may move, or else the next
+/// one of the queue.
+fn next_item<T: Tasker, G, R: Wait>(
+    rt: &R,
+    crew: &Crew<'_, '_, T, G>,
+    worker: Worker<T>,
+) -> (Worker<T>, Option<QueueItem<T>>)
+    requires crew { IsCrew (T.rules crew.now.tasker.now) crew.now.limits.now crew.now.board.now
+        (ruled_capacity crew.now.queue.now) }
+    requires queue { IsPassOf crew.now.queue.now worker.pass }
+    requires work { IsAtWork
+        (run_on crew.now.tasker.now crew.now.limits.now crew.now.board.now)
+        (view worker.pass) worker.kept.items worker.waiting.items }
+    ensures queue { IsPassOf crew.now.queue.now result.0.pass }
+    ensures parts { (view result.0.pass).parts ≡ (view worker.pass).parts }
+    ensures serving { IfSome result.1 (λ item. IsServing
+        (run_on crew.now.tasker.now crew.now.limits.now crew.now.board.now)
+        (view result.0.pass) result.0.kept.items result.0.waiting.items item) }
+    ensures work { IfNone result.1 (IsAtWork
+        (run_on crew.now.tasker.now crew.now.limits.now crew.now.board.now)
+        (view result.0.pass) result.0.kept.items result.0.waiting.items) }
+    ensures all { IfNone result.1 (HoldsAll (view result.0.pass)) }
+{
+    match first_ready(crew, worker.waiting.as_slice()) {
+        Some(place) => {
+            let (worker, item) = take_up(crew, worker, place);
+            (worker, Some(item))
+        }
+        None => take_out(rt, crew, worker),
+    }
+}
+
+/// What a worker does that found no carrier: it returns where no slot lives, or a stop was called.
+fn idle_next<T: Tasker, G>(crew: &Crew<'_, '_, T, G>, waiting: &[QueueItem<T>]) -> Next
+    ensures { WhenOver result (waiting.now ≡ []) }
+{
+    if crew.live_slots.load(Ordering::Relaxed) != 0 {
+        return Next::Idle;
+    }
+    Next::Ends(if waiting.is_empty() {
+        End::Empty
+    } else {
+        End::Stopped
+    })
+}
+
+/// Serves a carrier, where one may move.
+fn step<T: Tasker, G: Gate, R: Wait>(
+    rt: &R,
+    alloc: Global,
+    crew: &Crew<'_, '_, T, G>,
+    worker: Worker<T>,
+) -> (Worker<T>, Next)
+    requires crew { IsCrew (T.rules crew.now.tasker.now) crew.now.limits.now crew.now.board.now
+        (ruled_capacity crew.now.queue.now) }
+    requires queue { IsPassOf crew.now.queue.now worker.pass }
+    requires work { IsAtWork
+        (run_on crew.now.tasker.now crew.now.limits.now crew.now.board.now)
+        (view worker.pass) worker.kept.items worker.waiting.items }
+    ensures queue { IsPassOf crew.now.queue.now result.0.pass }
+    ensures parts { (view result.0.pass).parts ≡ (view worker.pass).parts }
+    ensures worker { IsWorker
+        (run_on crew.now.tasker.now crew.now.limits.now crew.now.board.now) (view result.0.pass) }
+    ensures held { AreHeld (view result.0.pass).holds
+        (result.0.kept.items ++ result.0.waiting.items) }
+    ensures work { WhenGoesOn result.1 (IsAtWork
+        (run_on crew.now.tasker.now crew.now.limits.now crew.now.board.now)
+        (view result.0.pass) result.0.kept.items result.0.waiting.items) }
+    ensures kept { WhenOver result.1 (IsOverAll
+        (run_on crew.now.tasker.now crew.now.limits.now crew.now.board.now)
+        (view result.0.pass) result.0.kept.items) }
+    ensures all { WhenOver result.1 (HoldsAll (view result.0.pass)) }
+{
+    let (holder, item) = next_item(rt, crew, worker);
+    let Some(item) = item else {
+        let next = idle_next(crew, holder.waiting.as_slice());
+        return (holder, next);
+    };
+    let (after, goes_on) = serve(rt, alloc, crew, holder, item);
+    if goes_on {
+        return (after, Next::Served);
+    }
+    crew.live_slots.store(0, Ordering::Relaxed);
+    (after, Next::Ends(End::Stopped))
+}
+
+/// Lets some time pass after so many looks in vain, and gives the number of looks.
+fn pause(looks: u32) -> u32 {
+    if looks < LOOKS {
+        spin_loop();
+        return looks + 1;
+    }
+    thread::yield_now();
+    looks
+}
+
+/// Serves one carrier after the other, until no slot lives or a stop was called.
+fn work<T: Tasker, G: Gate, R: Wait>(
     rt: &R,
     alloc: Global,
     crew: &Crew<'_, '_, T, G>,
@@ -244,37 +418,80 @@ pub(crate) fn work<T: Tasker, G: Gate, R: Wait>(
     requires crew { IsCrew (T.rules crew.now.tasker.now) crew.now.limits.now crew.now.board.now
         (ruled_capacity crew.now.queue.now) }
     requires queue { IsPassOf crew.now.queue.now worker.pass }
-    requires worker { IsWorker
-        (run_on crew.now.tasker.now crew.now.limits.now crew.now.board.now) (view worker.pass) }
-    requires kept { IsOverAll
+    requires work { IsAtWork
         (run_on crew.now.tasker.now crew.now.limits.now crew.now.board.now)
-        (view worker.pass) worker.kept.items }
+        (view worker.pass) worker.kept.items worker.waiting.items }
     ensures queue { IsPassOf crew.now.queue.now result.0.pass }
+    ensures parts { (view result.0.pass).parts ≡ (view worker.pass).parts }
     ensures worker { IsWorker
         (run_on crew.now.tasker.now crew.now.limits.now crew.now.board.now) (view result.0.pass) }
-    ensures parts { (view result.0.pass).parts ≡ (view worker.pass).parts }
-    ensures held { AreHeld (view result.0.pass).holds result.0.kept.items }
+    ensures held { AreHeld (view result.0.pass).holds
+        (result.0.kept.items ++ result.0.waiting.items) }
     ensures kept { WhenEmpty result.1 (IsOverAll
         (run_on crew.now.tasker.now crew.now.limits.now crew.now.board.now)
         (view result.0.pass) result.0.kept.items) }
     ensures all { WhenEmpty result.1 (HoldsAll (view result.0.pass)) }
 {
+    let mut looks = 0;
     for _ in rt.forever() {
-        let (holder, item) = take_out(rt, crew, worker);
-        let Some(item) = item else {
-            return (holder, End::Empty);
-        };
-        let (after, goes_on) = serve(rt, alloc, crew, holder, item);
+        let (after, next) = step(rt, alloc, crew, worker);
         worker = after;
-        if !goes_on {
-            return (worker, End::Stopped);
+        match next {
+            Next::Served => looks = 0,
+            Next::Idle => looks = pause(looks),
+            Next::Ends(end) => return (worker, end),
         }
     }
     unreachable!()
 }
 
+/// Room for so many carriers that wait with a worker, or none where there is no memory for it.
+fn room_for_waiting<T: Tasker>(alloc: Global, carriers: usize) -> Vec<QueueItem<T>>
+    ensures { result.items ≡ [] }
+{
+    match Vec::with_capacity(alloc, carriers) {
+        Ok(room) => room,
+        Err(_) => Vec::new(alloc),
+    }
+}
+
+/// The same for a pass whose worker keeps these carriers.
+pub(crate) fn start<T: Tasker, G: Gate, R: Wait>(
+    rt: &R,
+    alloc: Global,
+    crew: &Crew<'_, '_, T, G>,
+    pass: Pass<T>,
+    kept: Vec<Carrier<T>>,
+) -> (Worker<T>, End)
+    requires crew { IsCrew (T.rules crew.now.tasker.now) crew.now.limits.now crew.now.board.now
+        (ruled_capacity crew.now.queue.now) }
+    requires queue { IsPassOf crew.now.queue.now pass }
+    requires worker { IsWorker
+        (run_on crew.now.tasker.now crew.now.limits.now crew.now.board.now) (view pass) }
+    requires kept { IsOverAll
+        (run_on crew.now.tasker.now crew.now.limits.now crew.now.board.now) (view pass) kept.items }
+    ensures queue { IsPassOf crew.now.queue.now result.0.pass }
+    ensures parts { (view result.0.pass).parts ≡ (view pass).parts }
+    ensures worker { IsWorker
+        (run_on crew.now.tasker.now crew.now.limits.now crew.now.board.now) (view result.0.pass) }
+    ensures held { AreHeld (view result.0.pass).holds
+        (result.0.kept.items ++ result.0.waiting.items) }
+    ensures kept { WhenEmpty result.1 (IsOverAll
+        (run_on crew.now.tasker.now crew.now.limits.now crew.now.board.now)
+        (view result.0.pass) result.0.kept.items) }
+    ensures all { WhenEmpty result.1 (HoldsAll (view result.0.pass)) }
+{
+    let waiting = room_for_waiting(alloc, crew.most_waiting);
+    let worker = Worker {
+        pass,
+        kept,
+        waiting,
+    };
+    work(rt, alloc, crew, worker)
+}
+
 /// The same for a pass whose worker keeps nothing yet.
-pub(crate) fn work_first<T: Tasker, G: Gate, R: Wait>(
+pub(crate) fn start_first<T: Tasker, G: Gate, R: Wait>(
     rt: &R,
     alloc: Global,
     crew: &Crew<'_, '_, T, G>,
@@ -295,5 +512,5 @@ pub(crate) fn work_first<T: Tasker, G: Gate, R: Wait>(
         (view result.0.pass) result.0.kept.items) }
 {
     let kept = Vec::new(alloc);
-    work(rt, alloc, crew, Worker { pass, kept })
+    start(rt, alloc, crew, pass, kept)
 }

@@ -16,7 +16,7 @@ workers-worker-requires-clause-threads g c κs within =
 
 pub returns : goal.returns
 returns g c =
-    ended_when_empty _ _ _ _ _ c.in-Empty-end.is c.requires.crew.ranges c.work-worker.ensures.worker
-    (c.work-worker.ensures.parts
+    ended_when_empty _ _ _ _ _ c.in-Empty-end.is c.requires.crew.ranges c.start-worker.ensures.worker
+    (c.start-worker.ensures.parts
     ∙ (c.workers-worker.ensures.parts ∙ ap (λ v. v.parts) c.in_ok-pass.ensures.filled))
-    c.work-worker.ensures.all c.work-worker.ensures.kept c.of.ensures
+    c.start-worker.ensures.all c.start-worker.ensures.kept c.of.ensures

@@ -1,6 +1,6 @@
-use Rattle.std.proofs.Common.{◌+◌, length, length-append, sym, ap, ◌∙◌, subst, arith}
+use Rattle.std.proofs.Common.{sym, ap, ◌∙◌}
 use Rattle.task_crew.specs.Hands.{filled}
-use Rattle.version_store.proofs.Seats.{first_new, first_slot, first_within, new_from, none_left, rest_from}
+use Rattle.version_store.proofs.Seats.{first_new, first_slot, first_within, new_from}
 use Rattle.task_crew.proofs.run.fill.Goals as goal
 
 pub loop-seat-init : goal.loop-seat-init

@@ -1,5 +1,4 @@
 use Rattle.std.proofs.Common.{ap, ◌∙◌, arith}
-use Rattle.task_crew.specs.declared.hand.Hand.{Hand}
 use Rattle.task_crew.proofs.Crews.{may_share, worker_kept, worker_others}
 use Rattle.task_crew.proofs.run.share.Goals as goal
 

@@ -1,4 +1,3 @@
-use Rattle.std.proofs.Common.{ap}
 use Rattle.task_crew.proofs.Advances.{after, same_run}
 use Rattle.task_crew.proofs.worker.move_once.Goals as goal
 

@@ -1,14 +1,12 @@
 use Rattle.std.proofs.Common.{◌≡◌}
 use Rattle.crossbeam_queue.specs.Passes.{IsPassOf, view}
-use Rattle.task_crew.specs.Crews.{IsOverAll, IsWorker, run_on}
+use Rattle.task_crew.specs.Crews.{IsAtWork, run_on}
 use Rattle.task_crew.proofs.worker.work.Given as goal
 
 abbrev pub invariant-loop : goal.invariant-loop
 invariant-loop g l = record {
   queue : IsPassOf l.crew.queue.now l.worker.pass;
-  worker : IsWorker (run_on l.crew.tasker.now l.crew.limits.now l.crew.board.now)
-      (view l.worker.pass);
   parts : (view l.worker.pass).parts ≡ (view l.fn.worker.pass).parts;
-  kept : IsOverAll (run_on l.crew.tasker.now l.crew.limits.now l.crew.board.now)
-      (view l.worker.pass) l.worker.kept.items;
+  work : IsAtWork (run_on l.crew.tasker.now l.crew.limits.now l.crew.board.now)
+      (view l.worker.pass) l.worker.kept.items l.worker.waiting.items;
 }
