@@ -1,5 +1,5 @@
 -- What the steps of a worker leave of its pass and of the carriers that it keeps.
-use Rattle.std.proofs.Common.{◌≡◌, ℕ, zero, suc, ◌+◌, ◌<◌, nat_eq, if◌then◌else◌, List, [], ◌∷◌, ◌++◌, length, map, sym, refl, ap, ◌∙◌, subst, Bool, true, false, length-append, ◌||◌, Option, Some, None, MatchOption, IfSome, IfNone, Result, Ok, Err, MatchResult, is_ok, is_some, true≢false, arith}
+use Rattle.std.proofs.Common.{◌≡◌, ℕ, zero, suc, ◌+◌, ◌<◌, ◌≤◌, nat_eq, if◌then◌else◌, List, [], ◌∷◌, ◌++◌, length, map, sym, refl, ap, ◌∙◌, subst, Bool, true, false, length-append, ◌||◌, Option, Some, None, MatchOption, IfSome, IfNone, Result, Ok, Err, MatchResult, is_ok, is_some, true≢false, arith}
 use Rattle.std.specs.Prelude.{remove, slice_index_or, ⊤}
 use Rattle.clock_words.specs.Seats.{BoardView, SeatView, new_seat}
 use Rattle.stamp_machine.specs.declared.limits.Limits.{Limits}
@@ -112,6 +112,7 @@ module _ {T V L : Type 0} where
     over = is.over;
     living = is.living;
     served = record { of_run = same_some (sym left.1.same ∙ is.worker.same); lives = left.1.lives };
+    few = omega (arith, left.2);
   })
 
   -- a carrier that is served is one of the queue's run
@@ -201,6 +202,7 @@ module _ {T V L : Type 0} where
     };
     over = s.over;
     living = s.living;
+    few = λ _. omega (arith, s.few, length_without (slot_of c) v.holds (stands run v kept waiting c s));
   })
 
   pub work_pushed : (size : ℕ) (run : RunView T) (v w : Hand (RunView T)) (kept waiting : List (CarrierView T V L)) (c : CarrierView T V L)
@@ -229,6 +231,7 @@ module _ {T V L : Type 0} where
         over = s.over;
         living = s.living;
         served = record { of_run = same ∙ (ap run_of is ∙ s.served.of_run); lives = live };
+        few = s.few;
       }))
 
   -- a carrier that waits with the worker
@@ -254,6 +257,7 @@ module _ {T V L : Type 0} where
     };
     over = s.over;
     living = living_append run waiting (c ∷ []) s.living (s.served, tt);
+    few = λ _. s.few;
   })
 
   -- of carriers from which one was removed
@@ -304,6 +308,7 @@ module _ {T V L : Type 0} where
         over = is.over;
         living = living.1;
         served = subst (IsLiving run) (sym at) living.0;
+        few = is.few (omega (arith, below));
       }))
 
   -- a pass that holds nothing, and no carriers
@@ -333,6 +338,7 @@ module _ {T V L : Type 0} where
     held = subst (AreHeld v.holds) (sym (none_more kept)) is.held;
     over = is.over;
     living = tt;
+    few = λ some. absurd (omega (arith, some));
   })
 
   pub over_next : (run : RunView T) (v : Hand (RunView T)) (kept waiting seen : List (CarrierView T V L)) (next : Next) →
@@ -383,6 +389,7 @@ module _ {T V L : Type 0} where
           tt,
         ));
         living = subst (Each (IsLiving run)) (sym still) s.living;
+        few = λ _. subst (λ (u : Hand (RunView T)). length u.holds ≤ u.count) (sym same) s.few;
       }
 
   -- where the queue is empty, the pass with all parts holds each slot

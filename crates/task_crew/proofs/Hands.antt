@@ -168,7 +168,11 @@ module _ {C R : Type 0} (slot_of : C → ℕ) (run_of : C → R) (Lives : C → 
           all = omega (arith, total_set (λ u. length u.holds) views pass v w at, kept.all);
           in_run = kept.in_run.1;
         },
-        (refl, subst (λ o. IsInRun slot_of run_of Lives o c) (sym same.0) kept.in_run.0),
+        (
+          refl,
+          subst (λ o. IsInRun slot_of run_of Lives o c) (sym same.0) kept.in_run.0,
+          omega (arith, one_within (λ u. length u.holds) views pass v at, kept.all, same.1),
+        ),
       )
 
   pub returns : (n pass : ℕ) (v : Hand R) (c : C) → 0 < v.parts → 0 < times (slot_of c) v.holds →

@@ -1,5 +1,5 @@
 -- The queue's rule for the carriers of a run, and what a worker keeps.
-use Rattle.std.specs.Prelude.{ℕ, ◌+◌, ◌-◌, ◌^◌, ◌≡◌, ◌<◌, if◌then◌else◌, min, nat_lt, Bool, true, false, List, [], ◌∷◌, ◌++◌, length, map, Some, ⊤}
+use Rattle.std.specs.Prelude.{ℕ, ◌+◌, ◌-◌, ◌^◌, ◌≡◌, ◌<◌, ◌≤◌, if◌then◌else◌, min, nat_lt, Bool, true, false, List, [], ◌∷◌, ◌++◌, length, map, Some, ⊤}
 use Rattle.clock_words.specs.Seats.{BoardView}
 use Rattle.stamp_machine.specs.Limits.{AreLimits}
 use Rattle.stamp_machine.specs.declared.limits.Limits.{Limits}
@@ -141,13 +141,15 @@ module _ {T V L : Type 0} where
     pub held : AreHeld v.holds kept
     pub over : AreOver run kept
 
-  -- a worker holds the carriers of its pass: it keeps some, which are over, and others wait with it
+  -- a worker holds the carriers of its pass: it keeps some, which are over, and others wait with it.
+  -- Where one waits, it holds no more than the run has
   pub record IsAtWork (run : RunView T) (v : Hand (RunView T))
       (kept waiting : List (CarrierView T V L)) : Type 0 where
     pub worker : IsWorker run v
     pub held : AreHeld v.holds (kept ++ waiting)
     pub over : AreOver run kept
     pub living : Each (IsLiving run) waiting
+    pub few : 0 < length waiting → length v.holds ≤ v.count
 
   -- the same of a worker that serves one more carrier
   pub record IsServing (run : RunView T) (v : Hand (RunView T))
@@ -157,6 +159,7 @@ module _ {T V L : Type 0} where
     pub over : AreOver run kept
     pub living : Each (IsLiving run) waiting
     pub served : IsLiving run c
+    pub few : length v.holds ≤ v.count
 
   -- a crew and a pass of a worker that keeps nothing
   pub record CanWork (r : Rules V L) (run : RunView T) (capacity : ℕ) (v : Hand (RunView T)) :

@@ -83,9 +83,10 @@ module _ {C R : Type 0} (slot_of : C → ℕ) (run_of : C → R) (Lives : C → 
   abbrev pub Enters : Hand R → C → Hand R → Type 0
   Enters v c w = w ≡ hand v.parts (Some (run_of c)) (v.count + 1) v.holds
 
-  -- a carrier is taken out
+  -- a carrier is taken out, and the pass holds no more than the run has
   abbrev pub Leaves : Hand R → C → Hand R → Type 0
   Leaves v c w = (w ≡ hand v.parts v.run v.count (slot_of c ∷ v.holds)) × IsInRun v.run c
+      × (length v.holds < v.count)
 
   -- a carrier that was taken out is put back
   abbrev pub Returns : Hand R → C → Hand R → Type 0

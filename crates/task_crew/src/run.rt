@@ -257,6 +257,8 @@ fn carriers_at_end<T: Tasker + Sync, G: Gate + Sync, R: Threads + Wait + Sync>(
         kept,
         waiting: _,
     } = worker;
+    let mut kept = kept;
+    kept.reserve(crew.limits.slots as usize)?;
     let (worker, end) = start(rt, alloc, crew, pass, kept);
     let End::Empty = end else {
         return Err(OutOfMemory);

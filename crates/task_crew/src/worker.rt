@@ -1,5 +1,5 @@
 //! The work of one thread of a crew.
-ghost use Rattle.std.specs.Prelude.{◌≡◌, ◌+◌, ◌++◌, ◌∷◌, ◌<◌, [], length, true, vec_capacity, vec_len, IfNone, IfOk, IfSome};
+ghost use Rattle.std.specs.Prelude.{◌≡◌, ◌+◌, ◌++◌, ◌∷◌, ◌<◌, ◌≤◌, [], length, true, vec_capacity, vec_len, IfNone, IfOk, IfSome};
 ghost use Rattle.crossbeam_queue.specs.Passes.{IsPassOf, ruled_capacity, view};
 ghost use Rattle.task_crew.specs.Crews.{AreHeld, HoldsAll, IsAfterMove, IsAfterTurn, IsAtWork, IsCrew, IsOverAll, IsServing, IsWorker, WhenEmpty, WhenGoesOn, WhenOver, run_of, run_on};
 ghost use Rattle.version_store.specs.Advances.{lives};
@@ -47,7 +47,7 @@ pub(crate) struct Worker<T: Tasker> {
 /// Why a worker returns.
 #[derive(Clone, Copy)]
 pub enum End {
-    /// It found the queue empty, and no carrier waits with it.
+    /// It found the queue empty, or had no memory to begin, and no carrier waits with it.
     Empty,
     /// It found a stop, or called it.
     Stopped,
@@ -149,6 +149,7 @@ fn put_back<T: Tasker, G: Gate, R: Wait>(
         (view worker.pass) worker.kept.items worker.waiting.items item }
     ensures queue { IsPassOf crew.now.queue.now result.pass }
     ensures parts { (view result.pass).parts ≡ (view worker.pass).parts }
+    ensures kept { result.kept ≡ worker.kept }
     ensures work { IsAtWork
         (run_on crew.now.tasker.now crew.now.limits.now crew.now.board.now)
         (view result.pass) result.kept.items result.waiting.items }
@@ -175,6 +176,7 @@ fn set_aside<T: Tasker, G: Gate, R: Wait>(
         (view worker.pass) worker.kept.items worker.waiting.items item }
     ensures queue { IsPassOf crew.now.queue.now result.pass }
     ensures parts { (view result.pass).parts ≡ (view worker.pass).parts }
+    ensures kept { result.kept ≡ worker.kept }
     ensures work { IsAtWork
         (run_on crew.now.tasker.now crew.now.limits.now crew.now.board.now)
         (view result.pass) result.kept.items result.waiting.items }
@@ -193,6 +195,7 @@ fn keep<T: Tasker>(mut worker: Worker<T>, carrier: Carrier<T>) -> Worker<T>
     requires room { vec_len worker.kept < vec_capacity worker.kept }
     ensures pass { result.pass ≡ worker.pass }
     ensures kept { result.kept.items ≡ worker.kept.items ++ carrier ∷ [] }
+    ensures room { vec_capacity worker.kept ≤ vec_capacity result.kept }
     ensures waiting { result.waiting ≡ worker.waiting }
 {
     worker.kept.push_reserved(carrier);
@@ -204,7 +207,7 @@ fn serve<T: Tasker, G: Gate, R: Wait>(
     rt: &R,
     alloc: Global,
     crew: &Crew<'_, '_, T, G>,
-    mut worker: Worker<T>,
+    worker: Worker<T>,
     item: QueueItem<T>,
 ) -> (Worker<T>, bool)
     requires crew { IsCrew (T.rules crew.now.tasker.now) crew.now.limits.now crew.now.board.now
@@ -213,8 +216,10 @@ fn serve<T: Tasker, G: Gate, R: Wait>(
     requires serving { IsServing
         (run_on crew.now.tasker.now crew.now.limits.now crew.now.board.now)
         (view worker.pass) worker.kept.items worker.waiting.items item }
+    requires room { crew.now.limits.now.slots ≤ vec_capacity worker.kept }
     ensures queue { IsPassOf crew.now.queue.now result.0.pass }
     ensures parts { (view result.0.pass).parts ≡ (view worker.pass).parts }
+    ensures room { crew.now.limits.now.slots ≤ vec_capacity result.0.kept }
     ensures worker { IsWorker
         (run_on crew.now.tasker.now crew.now.limits.now crew.now.board.now) (view result.0.pass) }
     ensures held { AreHeld (view result.0.pass).holds
@@ -223,14 +228,7 @@ fn serve<T: Tasker, G: Gate, R: Wait>(
         (run_on crew.now.tasker.now crew.now.limits.now crew.now.board.now)
         (view result.0.pass) result.0.kept.items result.0.waiting.items }
 {
-    let (mut carrier, awaited) = item.into_parts();
-    if worker.kept.reserve(1).is_err() {
-        carrier.call_stop(crew.board);
-        return (
-            put_back(rt, crew, worker, QueueItem::new(carrier, None)),
-            false,
-        );
-    }
+    let (carrier, awaited) = item.into_parts();
     let (carrier, after) = turn(alloc, crew, carrier, awaited);
     match after {
         After::Goes => (
@@ -265,6 +263,7 @@ fn take_out<T: Tasker, G, R: Wait>(
         (view worker.pass) worker.kept.items worker.waiting.items }
     ensures queue { IsPassOf crew.now.queue.now result.0.pass }
     ensures parts { (view result.0.pass).parts ≡ (view worker.pass).parts }
+    ensures kept { result.0.kept ≡ worker.kept }
     ensures serving { IfSome result.1 (λ item. IsServing
         (run_on crew.now.tasker.now crew.now.limits.now crew.now.board.now)
         (view result.0.pass) result.0.kept.items result.0.waiting.items item) }
@@ -303,6 +302,7 @@ fn take_up<T: Tasker, G>(
         (run_on crew.now.tasker.now crew.now.limits.now crew.now.board.now)
         (view worker.pass) worker.kept.items worker.waiting.items }
     ensures pass { result.0.pass ≡ worker.pass }
+    ensures kept { result.0.kept ≡ worker.kept }
     ensures serving { IsServing
         (run_on crew.now.tasker.now crew.now.limits.now crew.now.board.now)
         (view result.0.pass) result.0.kept.items result.0.waiting.items result.1 }
@@ -327,6 +327,7 @@ fn next_item<T: Tasker, G, R: Wait>(
         (view worker.pass) worker.kept.items worker.waiting.items }
     ensures queue { IsPassOf crew.now.queue.now result.0.pass }
     ensures parts { (view result.0.pass).parts ≡ (view worker.pass).parts }
+    ensures kept { result.0.kept ≡ worker.kept }
     ensures serving { IfSome result.1 (λ item. IsServing
         (run_on crew.now.tasker.now crew.now.limits.now crew.now.board.now)
         (view result.0.pass) result.0.kept.items result.0.waiting.items item) }
@@ -371,8 +372,10 @@ fn step<T: Tasker, G: Gate, R: Wait>(
     requires work { IsAtWork
         (run_on crew.now.tasker.now crew.now.limits.now crew.now.board.now)
         (view worker.pass) worker.kept.items worker.waiting.items }
+    requires room { crew.now.limits.now.slots ≤ vec_capacity worker.kept }
     ensures queue { IsPassOf crew.now.queue.now result.0.pass }
     ensures parts { (view result.0.pass).parts ≡ (view worker.pass).parts }
+    ensures room { crew.now.limits.now.slots ≤ vec_capacity result.0.kept }
     ensures worker { IsWorker
         (run_on crew.now.tasker.now crew.now.limits.now crew.now.board.now) (view result.0.pass) }
     ensures held { AreHeld (view result.0.pass).holds
@@ -421,6 +424,7 @@ fn work<T: Tasker, G: Gate, R: Wait>(
     requires work { IsAtWork
         (run_on crew.now.tasker.now crew.now.limits.now crew.now.board.now)
         (view worker.pass) worker.kept.items worker.waiting.items }
+    requires room { crew.now.limits.now.slots ≤ vec_capacity worker.kept }
     ensures queue { IsPassOf crew.now.queue.now result.0.pass }
     ensures parts { (view result.0.pass).parts ≡ (view worker.pass).parts }
     ensures worker { IsWorker
@@ -455,7 +459,7 @@ fn room_for_waiting<T: Tasker>(alloc: Global, carriers: usize) -> Vec<QueueItem<
     }
 }
 
-/// The same for a pass whose worker keeps these carriers.
+/// The same for a pass whose worker keeps these carriers, and has room for those of all slots.
 pub(crate) fn start<T: Tasker, G: Gate, R: Wait>(
     rt: &R,
     alloc: Global,
@@ -470,6 +474,7 @@ pub(crate) fn start<T: Tasker, G: Gate, R: Wait>(
         (run_on crew.now.tasker.now crew.now.limits.now crew.now.board.now) (view pass) }
     requires kept { IsOverAll
         (run_on crew.now.tasker.now crew.now.limits.now crew.now.board.now) (view pass) kept.items }
+    requires room { crew.now.limits.now.slots ≤ vec_capacity kept }
     ensures queue { IsPassOf crew.now.queue.now result.0.pass }
     ensures parts { (view result.0.pass).parts ≡ (view pass).parts }
     ensures worker { IsWorker
@@ -490,7 +495,8 @@ pub(crate) fn start<T: Tasker, G: Gate, R: Wait>(
     work(rt, alloc, crew, worker)
 }
 
-/// The same for a pass whose worker keeps nothing yet.
+/// The same for a pass whose worker keeps nothing yet. Where there is no memory for what it may come
+/// to keep, it leaves all carriers to the others.
 pub(crate) fn start_first<T: Tasker, G: Gate, R: Wait>(
     rt: &R,
     alloc: Global,
@@ -511,6 +517,15 @@ pub(crate) fn start_first<T: Tasker, G: Gate, R: Wait>(
         (run_on crew.now.tasker.now crew.now.limits.now crew.now.board.now)
         (view result.0.pass) result.0.kept.items) }
 {
-    let kept = Vec::new(alloc);
+    let Ok(kept) = Vec::with_capacity(alloc, crew.limits.slots as usize) else {
+        return (
+            Worker {
+                pass,
+                kept: Vec::new(alloc),
+                waiting: Vec::new(alloc),
+            },
+            End::Empty,
+        );
+    };
     start(rt, alloc, crew, pass, kept)
 }
