@@ -82,9 +82,15 @@ fn one_answer_with_all_numbers_of_threads(rt: HostRuntime) -> Result<(), Fail> {
     Ok(())
 }
 
-/// Whether two slots met at a gate, in a run that puts this. None where it puts something else.
-fn meets<R: Host>(rt: &R, line: &str, output: &[u8]) -> Result<Option<bool>, OutOfMemory> {
-    let gate = MeetGate::new(10_000_000, 0, 1);
+/// Whether two slots met at a gate, where each waits for so many turns of a loop, in a run that puts
+/// this. None where it puts something else.
+fn meets<R: Host>(
+    rt: &R,
+    turns: u64,
+    line: &str,
+    output: &[u8],
+) -> Result<Option<bool>, OutOfMemory> {
+    let gate = MeetGate::new(turns, 0, 1);
     let mut shelf = shelf_of(rt, HALVES)?;
     let mut out = SureSink::new(rt.alloc());
     run_over(rt, line, &gate, &mut shelf, &mut out)?;
@@ -94,13 +100,16 @@ fn meets<R: Host>(rt: &R, line: &str, output: &[u8]) -> Result<Option<bool>, Out
     Ok(Some(gate.met()))
 }
 
+const NONE: &[u8] = b"status infeasible\n";
+
+const SUMMARY: &[u8] = b"sample 1 status worklimit objective none entries 2\n";
+
 #[test]
 fn two_slots_meet(rt: HostRuntime) -> Result<(), Fail> {
     let line = "solve m --tasks=2 --threads=2";
-    assert_eq!(rt; meets(&rt, line, b"status infeasible\n")?, Some(true));
+    assert_eq!(rt; meets(&rt, 10_000_000, line, NONE)?, Some(true));
     let line = "sample 1 --tasks=2 --threads=2 --work=1";
-    let summary = b"sample 1 status worklimit objective none entries 2\n";
-    assert_eq!(rt; meets(&rt, line, summary)?, Some(true));
+    assert_eq!(rt; meets(&rt, 10_000_000, line, SUMMARY)?, Some(true));
     Ok(())
 }
 
@@ -108,6 +117,10 @@ fn two_slots_meet(rt: HostRuntime) -> Result<(), Fail> {
 #[test]
 fn no_slots_meet_on_one_thread(rt: HostRuntime) -> Result<(), Fail> {
     let line = "alone m --tasks=2 --threads=2";
-    assert_eq!(rt; meets(&rt, line, b"status infeasible\n")?, Some(false));
+    assert_eq!(rt; meets(&rt, 1_000, line, NONE)?, Some(false));
+    let line = "solve m --tasks=2 --threads=1";
+    assert_eq!(rt; meets(&rt, 1_000, line, NONE)?, Some(false));
+    let line = "sample 1 --tasks=2 --threads=1 --work=1";
+    assert_eq!(rt; meets(&rt, 1_000, line, SUMMARY)?, Some(false));
     Ok(())
 }
