@@ -56,7 +56,8 @@ pub fn run<S: Shelf, O: Sink, G: Gate + Sync, R: Threads + Wait + Sync>(
     out: &mut O,
     gate: &G,
 ) -> u8
-    ensures cause { Ends (IsCaused (map string_bytes words.now) (S.state shelf.old) (S.state shelf.new))
+    ensures cause { Ends
+        (IsCaused (map string_bytes words.now) (S.state shelf.old) (S.state shelf.new))
         (O.state out.old) (O.state out.new) result }
     ensures accepted { IsAcceptedIfAsked (map string_bytes words.now) (S.state shelf.old)
         (S.state shelf.new) result }
