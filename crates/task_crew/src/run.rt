@@ -299,7 +299,7 @@ pub fn run_crew<T: Tasker + Sync, G: Gate + Sync, R: Threads + Wait + Sync>(
     let story = RunStory::of(tasker, *limits);
     let (board, seats) = Board::new(alloc, story, limits.slots, limits.store)?;
     let (queue, pass) = Queue::ruled(alloc, limits.slots as usize)?;
-    let live_slots = AtomicU64::new(u64::from(limits.slots));
+    let ended_slots = AtomicU64::new(0);
     let workers = number_of_workers(rt, threads, limits.slots);
     let crew = Crew {
         board: &board,
@@ -308,7 +308,7 @@ pub fn run_crew<T: Tasker + Sync, G: Gate + Sync, R: Threads + Wait + Sync>(
         gate,
         queue: &queue,
         most_waiting: limits.slots.div_ceil(workers) as usize,
-        live_slots: &live_slots,
+        ended_slots: &ended_slots,
     };
     let carriers = carriers_at_end(rt, alloc, &crew, workers, seats, pass)?;
     gather(alloc, &board, carriers)

@@ -21,9 +21,9 @@ use work_stamp::Tasker;
 /// After so many looks in vain a worker lets other threads run.
 const LOOKS: u32 = 100;
 
-/// What the workers of a crew share. At most so many carriers wait with a worker. How many slots
-/// live, or 0 after a stop, is a hint on which no contract rests: a worker that finds no carrier
-/// returns where it is 0.
+/// What the workers of a crew share. At most so many carriers wait with a worker. How many slots are
+/// over is a hint on which no contract rests: a worker that finds no carrier returns where all are. A
+/// stop adds all slots to it.
 #[derive(Drop)]
 pub(crate) struct Crew<'a, 't, T: Tasker, G> {
     pub board: &'a Board<RunStory<'t, T>>,
@@ -32,7 +32,7 @@ pub(crate) struct Crew<'a, 't, T: Tasker, G> {
     pub gate: &'a G,
     pub queue: &'a Queue<T>,
     pub most_waiting: usize,
-    pub live_slots: &'a AtomicU64,
+    pub ended_slots: &'a AtomicU64,
 }
 
 /// A pass of the queue, the carriers that its worker keeps, whose slots are over, and those that
@@ -240,7 +240,7 @@ fn serve<T: Tasker, G: Gate, R: Wait>(
             true,
         ),
         After::Over => {
-            crew.live_slots.fetch_sub(1, Ordering::Relaxed);
+            crew.ended_slots.fetch_add(1, Ordering::Relaxed);
             (keep(worker, carrier), true)
         }
         After::Halted => (
@@ -349,7 +349,7 @@ fn next_item<T: Tasker, G, R: Wait>(
 fn idle_next<T: Tasker, G>(crew: &Crew<'_, '_, T, G>, waiting: &[QueueItem<T>]) -> Next
     ensures { WhenOver result (waiting.now ≡ []) }
 {
-    if crew.live_slots.load(Ordering::Relaxed) != 0 {
+    if crew.ended_slots.load(Ordering::Relaxed) < u64::from(crew.limits.slots) {
         return Next::Idle;
     }
     Next::Ends(if waiting.is_empty() {
@@ -397,7 +397,8 @@ fn step<T: Tasker, G: Gate, R: Wait>(
     if goes_on {
         return (after, Next::Served);
     }
-    crew.live_slots.store(0, Ordering::Relaxed);
+    crew.ended_slots
+        .fetch_add(u64::from(crew.limits.slots), Ordering::Relaxed);
     (after, Next::Ends(End::Stopped))
 }
 
